@@ -1,5 +1,6 @@
 -- The bytes of the rows that a merge takes.
-use Rattle.std.proofs.Common.{◌≡◌, ◌∙◌, sym, refl, ap, ℕ, ◌+◌, List, [], ◌∷◌, ◌++◌, Option, Some, None, Bool, true, false, cond}
+use Rattle.std.proofs.Common.{◌≡◌, ◌∙◌, sym, refl, ap, arith, ℕ, ◌+◌, ◌<◌, ◌^◌, List, [], ◌∷◌, ◌++◌, Option, Some, None, Bool, true, false, cond}
+use Rattle.std.specs.Option.{option_map, unwrap_or}
 use Rattle.row_model.specs.Rows.{Row}
 use Rattle.row_model.specs.Written.Sizes.{saturated_sum}
 use Rattle.fleet_rows.specs.Row.{row_of}
@@ -50,3 +51,18 @@ counts_end order row hs ss a high = by (best order hs) refl high
     by (Some p) f high =
         let rest = merged_lists order (lists (set hs p.0 None) (rows_left ss)) in
         ap (kept_back row) (takes_head order hs ss a p.0 p.1 f).rows ∙ ap (λ b. cond b (row_of p.1 ∷ kept_back row rest) []) high
+
+-- The bytes of the least head are those of the first row left.
+pub best_bytes : (order : IterationOrder) (hs : List (Option RowEntry)) (ss : List IteratorState) (found : Option ℕ) (bytes count : ℕ) → AllTaken hs ss → found ≡ option_map (λ p. row_bytes (row_of p.1)) (best order hs) → bytes ≡ unwrap_or found 0 → count < 2 ^ 64
+    → saturated_sum (count + bytes) ≡ counted_bytes count (taken_at_once false (merged_left order hs ss))
+best_bytes order hs ss found bytes count a is size fits = by (best order hs) refl
+  where
+    by : (b : Option (ℕ × RowEntry)) → best order hs ≡ b → saturated_sum (count + bytes) ≡ counted_bytes count (taken_at_once false (merged_left order hs ss))
+    by None f =
+        let whole : saturated_sum (count + 0) ≡ count = omega (arith, fits) in
+        let none : found ≡ None = is ∙ ap (option_map (λ p. row_bytes (row_of p.1))) f in
+        ap (λ (b : ℕ). saturated_sum (count + b)) (size ∙ ap (λ o. unwrap_or o 0) none)
+        ∙ (whole ∙ sym (ap (λ (w : List Row). counted_bytes count (taken_at_once false w)) (none_left order hs ss a f).0))
+    by (Some p) f =
+        let some : found ≡ Some (row_bytes (row_of p.1)) = is ∙ ap (option_map (λ p. row_bytes (row_of p.1))) f in
+        ap (λ (b : ℕ). saturated_sum (count + b)) (size ∙ ap (λ o. unwrap_or o 0) some) ∙ sym (ap (λ (w : List Row). counted_bytes count (taken_at_once false w)) (takes_head order hs ss a p.0 p.1 f).rows)

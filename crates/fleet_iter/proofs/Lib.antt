@@ -1,4 +1,5 @@
 pub mod Heaps
+pub mod Opened
 pub mod Merges
 pub mod MergedRows
 pub mod RisingRows

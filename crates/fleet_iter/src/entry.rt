@@ -17,6 +17,7 @@ pub struct MergeIteratorHeapEntry {
     pub index: usize,
 }
 
+#[inline]
 fn compare_orders(order: IterationOrder, other: IterationOrder) -> Ordering
     ensures { result ≡ order_cmp order other }
 {
@@ -27,12 +28,17 @@ fn compare_orders(order: IterationOrder, other: IterationOrder) -> Ordering
     }
 }
 
+#[inline]
 fn compare_entries(entry: &MergeIteratorHeapEntry, other: &MergeIteratorHeapEntry) -> Ordering
     ensures { result ≡ entry_cmp entry.now other.now }
 {
-    compare_orders(entry.order, other.order)
-        .then(compare(entry.order, &entry.row, &other.row))
-        .then(entry.index.cmp(&other.index))
+    match compare_orders(entry.order, other.order) {
+        Ordering::Equal => match compare(entry.order, &entry.row, &other.row) {
+            Ordering::Equal => entry.index.cmp(&other.index),
+            found => found,
+        },
+        found => found,
+    }
 }
 
 impl PartialEq for MergeIteratorHeapEntry {
@@ -68,6 +74,7 @@ impl Ord for MergeIteratorHeapEntry {
 
     ghost matches_eq = { λ a b. refl };
 
+    #[inline]
     fn cmp(&self, other: &MergeIteratorHeapEntry) -> Ordering {
         compare_entries(self, other)
     }

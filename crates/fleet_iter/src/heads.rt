@@ -7,8 +7,10 @@ ghost use Rattle.fleet_rows.specs.Row.{row_of};
 ghost use Rattle.fleet_rows.specs.declared.errors.SlateDBError.TheVariants as SlateDBError;
 ghost use Rattle.fleet_iter.specs.Merge.{best, found_row, hides, passes};
 ghost use Rattle.fleet_iter.specs.Heads.{HeadRows, refilled_heads};
+ghost use Rattle.fleet_iter.specs.Tracked.{row_bytes};
 
 use crate::merge::hides;
+use crate::tracked::row_bytes;
 use crate::{IterationOrder, MergeIteratorHeapEntry};
 use fleet_rows::{RowEntry, SlateDBError};
 use std::alloc::Global;
@@ -22,20 +24,27 @@ use std::mem;
 #[derive(Drop)]
 pub(crate) struct Heads {
     order: IterationOrder,
-    entries: BinaryHeap<Reverse<MergeIteratorHeapEntry>>,
+    // Each in a box, so that the heap moves no row.
+    entries: BinaryHeap<Reverse<Box<MergeIteratorHeapEntry>>>,
     // The number of sources.
     count: usize,
+    alloc: Global,
 }
 
 impl Model for Heads {
+    ghost use Rattle.std.specs.Prelude.{map};
     ghost use Rattle.fleet_iter.specs.Heads.{HeadRows, heads_of, AreHeads};
     ghost use Rattle.std.specs.BinaryHeap.{heap_items};
 
     ghost Value = { HeadRows };
 
-    ghost view = { λ h. record { order = h.order; rows = heads_of h.count (heap_items h.entries) } };
+    ghost view = { λ h. record {
+      order = h.order;
+      rows = heads_of h.count (map (λ e. record { 0 = e.0.value }) (heap_items h.entries));
+    } };
 
-    ghost invariant = { λ h. AreHeads h.order h.count (heap_items h.entries) };
+    ghost invariant = { λ h.
+        AreHeads h.order h.count (map (λ e. record { 0 = e.0.value }) (heap_items h.entries)) };
 }
 
 impl Heads {
@@ -47,6 +56,7 @@ impl Heads {
             order,
             entries: BinaryHeap::new(alloc),
             count: 0,
+            alloc,
         }
     }
 
@@ -58,11 +68,24 @@ impl Heads {
     }
 
     /// The least head, with the place of its source. None if there is no head.
+    #[inline]
     pub(crate) fn least(&self) -> Option<(usize, &RowEntry)>
         ensures { found_row result ≡ best self.now.order self.now.rows }
     {
         match self.entries.peek() {
             Some(Reverse(entry)) => Some((entry.index, &entry.row)),
+            None => None,
+        }
+    }
+
+    /// The bytes of the least head's key and value. None if there is no head.
+    #[inline]
+    pub(crate) fn least_bytes(&self) -> Option<u64>
+        ensures { result
+            ≡ option_map (λ p. row_bytes (row_of p.1)) (best self.now.order self.now.rows) }
+    {
+        match self.least() {
+            Some((_, row)) => Some(row_bytes(row)),
             None => None,
         }
     }
@@ -91,12 +114,13 @@ impl Heads {
         let Some(row) = head else {
             return Ok(());
         };
-        self.entries
-            .push(Reverse(MergeIteratorHeapEntry { order, row, index }))?;
+        let entry = Box::new(self.alloc, MergeIteratorHeapEntry { order, row, index })?;
+        self.entries.push(Reverse(entry))?;
         Ok(())
     }
 
     /// Takes the least head. The next row of its source comes in its place.
+    #[inline]
     pub(crate) fn replace_least(&mut self, head: Option<RowEntry>) -> Option<RowEntry>
         ensures taken { result ≡ option_map (λ p. p.1) (best self.old.order self.old.rows) }
         ensures heads { self.new ≡ record self.old
@@ -109,6 +133,7 @@ impl Heads {
     }
 
     // Takes the least head, and puts a row of its source in its place. The heap moves it down once.
+    #[inline]
     fn exchange_least(&mut self, row: RowEntry) -> Option<RowEntry>
         ensures taken { result ≡ option_map (λ p. p.1) (best self.old.order self.old.rows) }
         ensures heads { self.new ≡ record self.old
@@ -121,6 +146,7 @@ impl Heads {
     }
 
     // Takes the least head, whose source has no row left.
+    #[inline]
     fn remove_least(&mut self) -> Option<RowEntry>
         ensures taken { result ≡ option_map (λ p. p.1) (best self.old.order self.old.rows) }
         ensures heads { self.new ≡ record self.old
@@ -129,7 +155,7 @@ impl Heads {
         let Some(Reverse(entry)) = self.entries.pop() else {
             return None;
         };
-        Some(entry.row)
+        Some(Box::into_inner(entry).row)
     }
 
     /// Takes all heads out, by the places of their sources. No source is left.
@@ -141,7 +167,7 @@ impl Heads {
     {
         let mut rows = no_rows(alloc, self.count)?;
         'entries: while let Some(Reverse(entry)) = self.entries.pop() {
-            put_in_place(entry, &mut rows);
+            put_in_place(Box::into_inner(entry), &mut rows);
         }
         self.count = 0;
         Ok(rows)

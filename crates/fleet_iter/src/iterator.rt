@@ -101,6 +101,7 @@ impl<T: RowEntryIterator> RowSource for T {
         self.init(alloc)
     }
 
+    #[inline]
     fn next_row(&mut self, alloc: Global) -> Result<Option<RowEntry>, SlateDBError> {
         self.next(alloc)
     }

@@ -86,6 +86,7 @@ impl RowEntryIterator for ListIterator {
         Ok(())
     }
 
+    #[inline]
     fn next(&mut self, _alloc: Global) -> Result<Option<RowEntry>, SlateDBError>
         ensures next { Nexts (giving self.old) (giving self.new) result }
         ensures processed { self.new.processed

@@ -19,6 +19,7 @@ use std::cmp::Ordering;
 use std::mem;
 
 /// Compares rows by key in an iteration order, and rows of one key by falling sequence.
+#[inline]
 pub(crate) fn compare(order: IterationOrder, row: &RowEntry, other: &RowEntry) -> Ordering
     ensures { result ≡ cmp_in order (row_of row.now) (row_of other.now) }
 {
@@ -36,6 +37,7 @@ pub(crate) fn hides(row: &RowEntry, other: &RowEntry) -> bool
 }
 
 // Takes the least head, and reads the next row of its source as its new head.
+#[inline(always)]
 fn take_least<T: RowSource>(
     alloc: Global,
     sources: &mut Vec<T>,
@@ -283,8 +285,36 @@ fn skip_hidden<T: RowSource>(
     Ok(count)
 }
 
+// Takes the least head, and reads the next row of its source as its new head. It adds the bytes of
+// the head that it takes to the count.
+#[inline(always)]
+fn take_counted<T: RowSource>(
+    alloc: Global,
+    sources: &mut Vec<T>,
+    heads: &mut Heads,
+    processed: &mut u64,
+) -> Result<Option<RowEntry>, SlateDBError>
+    requires taken { AllTaken heads.old.rows (map T.state sources.old.items) }
+    requires sound { AllByRecursion T.sound sources.old.items }
+    ensures ok { IfOk result (Takes heads.old.order false heads.old.rows
+        (map T.state sources.old.items) heads.new.rows (map T.state sources.new.items)) }
+    ensures bytes { IfOk result (λ _. processed.new ≡ counted_bytes processed.old
+        (taken_at_once false (merged_left heads.old.order heads.old.rows (map T.state sources.old.items)))) }
+    ensures unchanged { IfErr result (λ _. processed.new ≡ processed.old) }
+    ensures err { IfErr result (CanFail (are_whole (map T.state sources.old.items))) }
+    ensures handed { IfErr result (IsHandedOn (map T.state sources.new.items)) }
+    ensures order { heads.new.order ≡ heads.old.order }
+    ensures sound { AllByRecursion T.sound sources.new.items }
+{
+    let bytes = heads.least_bytes().unwrap_or(0);
+    let row = take_least(alloc, sources, heads)?;
+    *processed = processed.saturating_add(bytes);
+    Ok(row)
+}
+
 // Takes the next row that the merge gives, and with dedup the rows that it hides. It adds the bytes
 // of all of them to the count.
+#[inline]
 fn take_given<T: RowSource>(
     alloc: Global,
     dedup: bool,
@@ -308,14 +338,13 @@ fn take_given<T: RowSource>(
     ensures order { heads.new.order ≡ heads.old.order }
     ensures sound { AllByRecursion T.sound sources.new.items }
 {
+    if !dedup {
+        return take_counted(alloc, sources, heads, processed);
+    }
     let Some(row) = take_least(alloc, sources, heads)? else {
         return Ok(None);
     };
     let count = processed.saturating_add(row_bytes(&row));
-    if !dedup {
-        *processed = count;
-        return Ok(Some(row));
-    }
     *processed = skip_hidden(alloc, sources, heads, &row, count)?;
     Ok(Some(row))
 }

@@ -17,6 +17,7 @@ pub trait TrackedRowEntryIterator: RowEntryIterator {
 }
 
 /// The bytes of the row's key and of its value or operand.
+#[inline]
 pub(crate) fn row_bytes(row: &RowEntry) -> u64
     ensures { result ≡ row_bytes (row_of row.now) }
 {

@@ -1,13 +1,14 @@
-use Rattle.std.proofs.Common.{◌≡◌, ◌<◌, ℕ, length, None, get_or, heap_items, heap_len}
+use Rattle.std.proofs.Common.{◌≡◌, ◌<◌, ℕ, map, length, None, get_or, heap_items, heap_len}
 use Rattle.std.specs.Option.{option_or}
 use Rattle.fleet_iter.specs.Heads.{AreHeads}
+use Rattle.fleet_iter.proofs.Opened.{opened}
 use Rattle.fleet_iter.proofs.Heaps.{row_at}
 use Rattle.fleet_iter.proofs.heads.Heads.take_rows.Given as goal
 
 -- At each place, the row of an entry left or else the row that was taken is the head.
 abbrev pub invariant-entries : goal.invariant-entries
 invariant-entries l =
-    let es = heap_items l.self-inside.entries in
+    let es = map opened (heap_items l.self-inside.entries) in
     record {
       heads : AreHeads l.self-inside.order l.self-inside.count es;
       order : l.self-inside.order ≡ l.fn.self.order;
