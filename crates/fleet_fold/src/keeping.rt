@@ -1,6 +1,6 @@
 //! What retention keeps of the rows of one key.
 
-ghost use Rattle.std.specs.Prelude.{◌≡◌, IfOk};
+ghost use Rattle.std.specs.Prelude.{◌≡◌, IfOk, IfSome, take};
 ghost use Rattle.row_model.specs.Rows.{is_expired, is_operand, is_tombstone};
 ghost use Rattle.row_model.specs.KeptRows.{as_tombstone_if_expired, retention_walk, without_old_tombstones, kept_rows};
 ghost use Rattle.fleet_rows.specs.Row.{row_of, rows_of, content_of};
@@ -59,6 +59,23 @@ fn ends_walk(row: &RowEntry, cut: u64) -> bool
     !is_operand(row) && row.seq <= cut
 }
 
+// How many rows the walk keeps, if it takes all of them as they are. None if it comes to a row that
+// is expired.
+fn kept_as_they_are(settings: Settings, rows: &[RowEntry]) -> Option<usize>
+    ensures { IfSome result (λ count. retention_walk settings.cut settings.tick (rows_of rows.now)
+        ≡ rows_of (take count rows.now)) }
+{
+    'rows: for i in 0..rows.len() {
+        if is_expired(&rows[i], settings.tick) {
+            return None;
+        }
+        if ends_walk(&rows[i], settings.cut) {
+            return Some(i + 1);
+        }
+    }
+    Some(rows.len())
+}
+
 // Keeps rows from the newest one on, up to the first that ends the walk. It drops expired operands,
 // and turns other expired rows into tombstones.
 fn walked(
@@ -70,6 +87,10 @@ fn walked(
         ≡ retention_walk settings.cut settings.tick (rows_of rows.items)) }
 {
     let mut rest = rows;
+    if let Some(count) = kept_as_they_are(settings, &rest) {
+        rest.truncate(count);
+        return Ok(rest);
+    }
     rest.reverse();
     let mut kept = Vec::new(alloc);
     'rows: while let Some(row) = rest.pop() {

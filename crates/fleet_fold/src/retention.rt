@@ -13,6 +13,7 @@ use fleet_iter::{Failure, RowEntryIterator, RowSource, TrackedRowEntryIterator};
 use fleet_rows::{RowEntry, Settings, SlateDBError};
 use std::alloc::Global;
 use std::cmp::Ordering;
+use std::mem;
 
 /// An iterator over the rows that retention keeps of an inner iterator's rows, key after key.
 #[derive(Drop)]
@@ -80,11 +81,13 @@ fn begin<T: RowSource>(
     Ok(())
 }
 
-// Takes the rows of the next key, or none at the end. It reads the first row after them ahead.
+// Takes the rows of the next key, or none at the end. It reads the first row after them ahead. The
+// rows come in the memory of `room`, whose own rows are dropped.
 fn read_key<T: RowSource>(
     alloc: Global,
     inner: &mut T,
     ahead: &mut Option<RowEntry>,
+    room: Vec<RowEntry>,
 ) -> Result<Vec<RowEntry>, SlateDBError>
     requires sound { T.sound inner.old }
     requires readable { IsReadable (T.state inner.old) }
@@ -93,7 +96,8 @@ fn read_key<T: RowSource>(
     ensures err { IfErr result (RefusesKey ahead.old (T.state inner.old) (T.state inner.new)) }
     ensures sound { T.sound inner.new }
 {
-    let mut rows = Vec::new(alloc);
+    let mut rows = room;
+    rows.clear();
     if let Some(row) = ahead.take() {
         rows.push(row)?;
     }
@@ -125,7 +129,8 @@ fn fill<T: RowSource>(
     ensures sound { T.sound inner.new }
 {
     'keys: while buffer.is_empty() {
-        let rows = read_key(alloc, inner, ahead)?;
+        let room = mem::replace(buffer, Vec::new(alloc));
+        let rows = read_key(alloc, inner, ahead, room)?;
         if rows.is_empty() {
             return Ok(());
         }
