@@ -1,5 +1,5 @@
 -- All ranges are finished, or the first refusal among them is answered.
-use Rattle.std.proofs.Common.{◌≡◌, ◌≢◌, ◌∙◌, refl, sym, ap, subst, ℕ, ◌<◌, zero, suc, List, [], ◌∷◌, ◌++◌, map, length, get_or, Some, Result, Ok, Err, arith}
+use Rattle.std.proofs.Common.{◌≡◌, ◌≢◌, ◌∙◌, refl, sym, ap, subst, ℕ, ◌+◌, ◌<◌, zero, suc, List, [], ◌∷◌, ◌++◌, map, length, get_or, Some, Result, Ok, Err, arith}
 use Rattle.std.specs.Result.{IfOk, IfErr}
 use Rattle.row_model.specs.Fold.{Operator}
 use Rattle.row_model.specs.Rows.{Row}
@@ -57,3 +57,13 @@ pub finishes_from : (merge : Operator) (sources : List (List (List Row))) (size 
     → FinishesRange merge sources size job answer
 finishes_from merge sources size job (Ok tables) finished refused = finished
 finishes_from merge sources size job (Err e) finished refused = refused
+
+-- If one more answer is put behind the others, the ranges up to it are finished.
+pub finishes_next : (merge : Operator) (sources : List (List (List Row))) (size : ℕ) (jobs : List RangeJob) (made : List (Result (List (List RowEntry)) SlateDBError)) (here : RangeJob) (answer : Result (List (List RowEntry)) SlateDBError) → length made < length jobs → here ≡ get_or jobs (length made) here
+    → FinishesRange merge sources size here answer → ((i : ℕ) (job : RangeJob) (d : Result (List (List RowEntry)) SlateDBError) → i < length made → FinishesRange merge sources size (get_or jobs i job) (get_or made i d))
+    → (i : ℕ) (job : RangeJob) (d : Result (List (List RowEntry)) SlateDBError) → i < length made + 1 → FinishesRange merge sources size (get_or jobs i job) (get_or (made ++ answer ∷ []) i d)
+finishes_next merge sources size [] made here answer lt is last each i job d within = absurd (omega (arith, lt))
+finishes_next merge sources size (j ∷ jobs) [] here answer lt is last each zero job d within = subst (λ k. FinishesRange merge sources size k answer) is last
+finishes_next merge sources size (j ∷ jobs) [] here answer lt is last each (suc i) job d within = absurd (omega (arith, within))
+finishes_next merge sources size (j ∷ jobs) (m ∷ made) here answer lt is last each zero job d within = each 0 job d (omega arith)
+finishes_next merge sources size (j ∷ jobs) (m ∷ made) here answer lt is last each (suc i) job d within = finishes_next merge sources size jobs made here answer (omega (arith, lt)) is last (λ k other e b. each (suc k) other e (omega (arith, b))) i job d (omega (arith, within))

@@ -24,6 +24,9 @@ use fleet_table::{RunData, TableData};
 use std::alloc::{AllocError, Global};
 use std::thread::{Threads, map_indices};
 
+// Sources with fewer rows in all cost less to read than the threads for their ranges.
+const THREADS_FROM: u64 = 1024;
+
 // Whether a row exceeds the size of a table that has `filled` bytes so far.
 fn is_full(size: u64, filled: u64, row: &RowEntry) -> bool
     requires in_bounds { IsInBounds (row_of row.now) }
@@ -150,9 +153,45 @@ fn finish_range<O: MergeOperator, G: RangeGate>(
     Ok(take_tables(alloc, &mut left, &job.cursor, size, number, gate)?)
 }
 
+// Whether the sources have too few rows for threads to pay.
+fn are_small(sources: &[RunData]) -> bool {
+    let mut rows: u64 = 0;
+    'sources: for source in sources {
+        'tables: for table in source.tables() {
+            rows = rows.saturating_add(table.rows());
+        }
+    }
+    rows < THREADS_FROM
+}
+
+// All that is left of each range, or its refusal. The ranges are made one after the other.
+fn finish_in_turn<O: MergeOperator, G: RangeGate>(
+    alloc: Global,
+    jobs: &[RangeJob],
+    sources: &[RunData],
+    operator: &O,
+    size: u64,
+    gate: &G,
+) -> Result<Vec<Result<RangeTables, SlateDBError>>, AllocError>
+    requires few { length jobs.now < 2 ^ 32 }
+    requires sources { AreSources sources.now }
+    ensures len { IfOk result (λ made. vec_len made ≡ length jobs.now) }
+    ensures each { IfOk result (λ made. (i : ℕ) (job : _) (d : _) → i < length jobs.now →
+        FinishesRange (O.merged (O.settings operator.now)) sources.now size
+        (slice_index_or jobs.now i job) (slice_index_or made.items i d)) }
+{
+    let mut made = Vec::with_capacity(alloc, jobs.len())?;
+    'turns: for i in 0..jobs.len() {
+        let number = i as u32 + 1;
+        let answer = finish_range(alloc, &jobs[i], sources, operator, size, number, gate);
+        made.push(answer)?;
+    }
+    Ok(made)
+}
+
 // All that is left of each range, or its refusal. Each range is made on a thread of its own, where
 // one can be had.
-fn finish_each<R: Threads + Sync, O: MergeOperator, G: RangeGate>(
+fn finish_at_once<R: Threads + Sync, O: MergeOperator, G: RangeGate>(
     rt: &R,
     alloc: Global,
     jobs: &[RangeJob],
@@ -193,11 +232,36 @@ fn all_made(
     Ok(ranges)
 }
 
+// All that is left of each range, or its refusal. Small ranges are made one after the other, unless
+// the gate may wait.
+fn finish_each<R: Threads + Sync, O: MergeOperator, G: RangeGate>(
+    rt: &R,
+    alloc: Global,
+    jobs: &[RangeJob],
+    sources: &[RunData],
+    operator: &O,
+    size: u64,
+    gate: &G,
+) -> Result<Vec<Result<RangeTables, SlateDBError>>, AllocError>
+    requires few { length jobs.now < 2 ^ 32 }
+    requires sources { AreSources sources.now }
+    ensures len { IfOk result (λ made. vec_len made ≡ length jobs.now) }
+    ensures each { IfOk result (λ made. (i : ℕ) (job : _) (d : _) → i < length jobs.now →
+        FinishesRange (O.merged (O.settings operator.now)) sources.now size
+        (slice_index_or jobs.now i job) (slice_index_or made.items i d)) }
+{
+    if are_small(sources) && !gate.may_wait() {
+        return finish_in_turn(alloc, jobs, sources, operator, size, gate);
+    }
+    finish_at_once(rt, alloc, jobs, sources, operator, size, gate)
+}
+
 /// Makes all that is left of each range after its cursor, and cuts it into tables. A table ends
 /// with the row with which its sum of `estimated_size` exceeds `max_sst_size` bytes, or at the
-/// range's end. The ranges are made at once, each on a thread of its own where one can be had. Each
-/// table is reported to the gate when it is made. If the operator refuses in several ranges, the
-/// error is the refusal in the first of them.
+/// range's end. The ranges are made at once, each on a thread of its own where one can be had. If
+/// the sources have few rows and the gate never waits, they are made one after the other instead,
+/// which is faster. Each table is reported to the gate when it is made. If the operator refuses in
+/// several ranges, the error is the refusal in the first of them.
 pub fn finish_ranges<R: Threads + Sync, O: MergeOperator, G: RangeGate>(
     rt: &R,
     alloc: Global,

@@ -2,7 +2,7 @@ use Rattle.std.proofs.Common.{rules, ◌≡◌, subst, get_or}
 use Rattle.fleet_exec.specs.Cut.{FinishesRange}
 use Rattle.fleet_exec.specs.declared.range_job.RangeJob.{RangeJob}
 use Rattle.fleet_exec.proofs.Finished.{same_within, finishes_from}
-use Rattle.fleet_exec.proofs.finish.fn.finish_each.one.Goals as goal
+use Rattle.fleet_exec.proofs.finish.fn.finish_at_once.one.Goals as goal
 
 pub returns : goal.returns
 returns g c job =
