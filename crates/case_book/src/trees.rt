@@ -121,7 +121,7 @@ fn separate(answer: &mut String, first: bool) -> Result<(), AllocError> {
 
 fn tell_tree(answer: &mut String, tree: &LsmTreeState) -> Result<(), AllocError> {
     let mut first = true;
-    'flushes: for view in tree.l0.as_slice() {
+    'flushes: for view in tree.l0.iter() {
         separate(answer, first)?;
         let number = view.id.number();
         write!(answer, "l{number}")?;

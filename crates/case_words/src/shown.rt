@@ -5,7 +5,9 @@ use bytes::Bytes;
 use fleet_plan::Anchor;
 use fleet_range::{ByteRangeBounds, BytesRange, ComparableRange};
 use fleet_rows::{KeyValue, ListOf, RowEntry};
-use fleet_tree::{BlockMeta, LsmTreeState, SortedRun, SsTableHandle, SsTableView, Tracked};
+use fleet_tree::{
+    BlockMeta, FlushList, LsmTreeState, SortedRun, SsTableHandle, SsTableView, Tracked,
+};
 use std::alloc::AllocError;
 use std::ops::RangeBounds;
 
@@ -134,10 +136,26 @@ impl Tell for SortedRun {
     }
 }
 
+// Appends flushes with commas between them, or `-` if there are none.
+fn tell_flushes(answer: &mut String, flushes: &FlushList) -> Result<(), AllocError> {
+    if flushes.is_empty() {
+        return answer.push('-');
+    }
+    let mut first = true;
+    'flushes: for flush in flushes.iter() {
+        if !first {
+            answer.push(',')?;
+        }
+        flush.tell(answer)?;
+        first = false;
+    }
+    Ok(())
+}
+
 // A tree is printed as its flushes, its runs, and the greatest sequence of its flushes.
 impl Tell for LsmTreeState {
     fn tell(&self, answer: &mut String) -> Result<(), AllocError> {
-        tell_list(answer, self.l0.as_slice(), ',')?;
+        tell_flushes(answer, &self.l0)?;
         answer.push('/')?;
         tell_list(answer, self.compacted.as_slice(), ',')?;
         answer.push('@')?;

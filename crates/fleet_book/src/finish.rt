@@ -10,7 +10,7 @@ use bytes::Bytes;
 use fleet_jobs::{Compaction, CompactionSpec, CompactionStatus, SourceId};
 use fleet_rows::{SlateDBError, Ulid};
 use fleet_tree::{
-    LsmTreeState, ManifestCore, RunList, SegmentList, SortedRun, SsTableView, ViewList,
+    FlushList, LsmTreeState, ManifestCore, RunList, SegmentList, SortedRun, SsTableView,
 };
 use std::alloc::{AllocError, Global};
 
@@ -111,11 +111,11 @@ fn finished_tree(
         ≡ finished_tree sources.now (option_copied output.entry) tree.now) }
     ensures memory { IsOkUnless result SlateDBError.Memory }
 {
-    let views = kept_views(alloc, sources, tree.l0.as_slice())?;
+    let views = kept_views(alloc, sources, &tree.l0)?;
     let mut runs = kept_runs(alloc, sources, tree.compacted.as_slice())?;
     add_output(&mut runs, output)?;
     Ok(LsmTreeState {
-        l0: ViewList::from_vec(alloc, views)?,
+        l0: FlushList::from_vec(alloc, views)?,
         compacted: RunList::from_vec(alloc, runs)?,
         last_compacted_l0_sst_view_id: mark_after(sources, tree),
         last_seq: tree.last_seq,
@@ -126,28 +126,33 @@ fn finished_tree(
 fn mark_after(sources: &[SourceId], tree: &LsmTreeState) -> Option<Ulid>
     ensures { result ≡ mark_after sources.now tree.now }
 {
-    match newest_named(sources, tree.l0.as_slice()) {
+    match newest_named(sources, &tree.l0) {
         Some(view) => Some(view.id),
         None => tree.last_compacted_l0_sst_view_id,
     }
 }
 
-fn newest_named<'a>(sources: &[SourceId], views: &'a [SsTableView]) -> Option<&'a SsTableView>
+fn newest_named<'a>(sources: &[SourceId], views: &'a FlushList) -> Option<&'a SsTableView>
     ensures { option_copied result ≡ find (λ view. is_named sources.now (L0 view.id)) views.now }
 {
-    views.iter().find(|view| names_view(sources, view.id))
+    'views: for view in views.iter() {
+        if names_view(sources, view.id) {
+            return Some(view);
+        }
+    }
+    None
 }
 
 // Copies of the flushes that are no sources.
 fn kept_views(
     alloc: Global,
     sources: &[SourceId],
-    views: &[SsTableView],
+    views: &FlushList,
 ) -> Result<Vec<SsTableView>, AllocError>
     ensures { IfOk result (λ kept. kept.items ≡ kept_views sources.now views.now) }
 {
     let mut kept = Vec::new(alloc);
-    'views: for view in views {
+    'views: for view in views.iter() {
         keep_view(&mut kept, sources, view)?;
     }
     Ok(kept)

@@ -9,7 +9,7 @@ ghost use Rattle.fleet_tree.specs.Trees.{RunFlushes, trees_of};
 ghost use Rattle.fleet_change.specs.Same.{HasTreesOf, same_flush, same_manifest, same_nodes, same_run, same_table, same_tree};
 
 use bytes::Bytes;
-use fleet_tree::{LsmTreeState, ManifestCore, SortedRun, SsTableView};
+use fleet_tree::{FlushList, LsmTreeState, ManifestCore, SortedRun, SsTableView};
 
 // What is compared by names and tables.
 trait Same {
@@ -58,6 +58,24 @@ fn are_same<T: Same>(these: &[T], others: &[T]) -> bool
     true
 }
 
+// There are as many flushes on both sides, and they are the same in their order.
+fn are_same_flushes(these: &FlushList, others: &FlushList) -> bool
+    ensures { result ≡ pointwise same_flush these.now others.now }
+{
+    let mut left = others.iter();
+    'these: for this in these.iter() {
+        match left.next() {
+            Some(other) => {
+                if !this.is_same(other) {
+                    return false;
+                }
+            }
+            None => return false,
+        }
+    }
+    left.next().is_none()
+}
+
 // The tables are the same in their order.
 fn have_same_tables(these: &[SsTableView], others: &[SsTableView]) -> bool
     ensures { result ≡ pointwise same_table these.now others.now }
@@ -78,7 +96,7 @@ fn have_same_tables(these: &[SsTableView], others: &[SsTableView]) -> bool
 fn have_same_nodes(tree: &LsmTreeState, other: &LsmTreeState) -> bool
     ensures { result ≡ same_nodes tree.now other.now }
 {
-    are_same(tree.l0.as_slice(), other.l0.as_slice())
+    are_same_flushes(&tree.l0, &other.l0)
         && are_same(tree.compacted.as_slice(), other.compacted.as_slice())
 }
 

@@ -48,12 +48,6 @@ fn add_run(views: &mut Vec<SsTableView>, run: Option<&SortedRun>) -> Result<(), 
     }
 }
 
-fn view_with(views: &[SsTableView], id: Ulid) -> Option<&SsTableView>
-    ensures { option_copied result ≡ find (λ view. view.id == id) views.now }
-{
-    views.iter().find(|view| view.id == id)
-}
-
 fn run_with(runs: &[SortedRun], id: u32) -> Option<&SortedRun>
     ensures { option_copied result ≡ find (λ run. run.id == id) runs.now }
 {
@@ -69,7 +63,7 @@ fn add_source(
     ensures { OnOk result (views.new.items ≡ views.old.items ++ views_at tree.now source.now) }
 {
     match source {
-        SourceId::SstView(id) => add_view(views, view_with(tree.l0.as_slice(), *id)),
+        SourceId::SstView(id) => add_view(views, tree.l0.with_id(*id)),
         SourceId::SortedRun(id) => add_run(views, run_with(tree.compacted.as_slice(), *id)),
     }
 }

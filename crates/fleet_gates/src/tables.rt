@@ -14,7 +14,7 @@ ghost use Rattle.fleet_gates.specs.Tables.{HasTables, first_of, flush_table, tab
 
 use fleet_jobs::{CompactionSpec, SourceId};
 use fleet_rows::Ulid;
-use fleet_tree::{LsmTreeState, ManifestCore, SortedRun, SsTableView};
+use fleet_tree::{FlushList, LsmTreeState, ManifestCore, SortedRun, SsTableView};
 use std::alloc::{AllocError, Global};
 use std::collections::BTreeMap;
 
@@ -41,7 +41,7 @@ fn tables_in(
 ) -> Result<Vec<Ulid>, AllocError>
     ensures { IfOk result (λ tables. tables.items ≡ tables_in tree.now sources.now) }
 {
-    let flushes = flush_tables(alloc, tree.l0.as_slice())?;
+    let flushes = flush_tables(alloc, &tree.l0)?;
     let runs = run_tables(alloc, tree.compacted.as_slice())?;
     let mut tables = Vec::new(alloc);
     'sources: for source in sources {
@@ -51,12 +51,12 @@ fn tables_in(
 }
 
 // The tables of flushes, by the ids of the flushes. Of flushes with one id the first counts.
-fn flush_tables(alloc: Global, views: &[SsTableView]) -> Result<BTreeMap<Ulid, Ulid>, AllocError>
+fn flush_tables(alloc: Global, views: &FlushList) -> Result<BTreeMap<Ulid, Ulid>, AllocError>
     ensures { IfOk result
         (λ tables. (id : ℕ) → get nat_cmp tables id ≡ flush_table id views.now) }
 {
     let mut tables = BTreeMap::new(alloc);
-    'views: for view in views {
+    'views: for view in views.iter() {
         add_flush(&mut tables, view)?;
     }
     Ok(tables)

@@ -13,7 +13,7 @@ ghost use Rattle.fleet_jobs.specs.Sources.{name_of};
 
 use crate::{NodeSet, SourceId};
 use fleet_rows::Ulid;
-use fleet_tree::{LsmTreeState, SortedRun, SsTableView};
+use fleet_tree::{FlushList, LsmTreeState, SortedRun};
 use std::alloc::{AllocError, Global};
 
 /// The nodes of a tree, newest first: its flushes, and then its runs.
@@ -21,16 +21,16 @@ pub fn tree_nodes(alloc: Global, tree: &LsmTreeState) -> Result<Vec<SourceId>, A
     ensures { IfOk result (λ nodes. map name_of nodes.items ≡ nodes_in tree.now) }
 {
     let mut nodes = Vec::new(alloc);
-    add_flushes(&mut nodes, tree.l0.as_slice())?;
+    add_flushes(&mut nodes, &tree.l0)?;
     add_runs(&mut nodes, tree.compacted.as_slice())?;
     Ok(nodes)
 }
 
-fn add_flushes(nodes: &mut Vec<SourceId>, views: &[SsTableView]) -> Result<(), AllocError>
+fn add_flushes(nodes: &mut Vec<SourceId>, views: &FlushList) -> Result<(), AllocError>
     ensures { OnOk result (map name_of nodes.new.items
         ≡ map name_of nodes.old.items ++ map (λ view. L0 view.id) views.now) }
 {
-    'views: for view in views {
+    'views: for view in views.iter() {
         nodes.push(SourceId::SstView(view.id))?;
     }
     Ok(())

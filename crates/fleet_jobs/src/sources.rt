@@ -47,7 +47,7 @@ pub(crate) fn views_of(
 ) -> Result<Vec<SsTableView>, AllocError>
     ensures { IfOk result (λ views. views.items ≡ taken_views spec.now core.now) }
 {
-    named_views(alloc, spec.sources(), l0_in(tree_of(spec, core)))
+    named_views(alloc, spec.sources(), tree_of(spec, core))
 }
 
 // Copies of the runs that a job with this spec takes.
@@ -67,15 +67,6 @@ fn tree_of<'a>(spec: &CompactionSpec, core: &'a ManifestCore) -> Option<&'a LsmT
     core.tree_for_segment(spec.segment().as_slice())
 }
 
-fn l0_in(tree: Option<&LsmTreeState>) -> &[SsTableView]
-    ensures { result.now ≡ l0_in (option_copied tree.entry) }
-{
-    match tree {
-        Some(tree) => tree.l0.as_slice(),
-        None => &[],
-    }
-}
-
 fn runs_in(tree: Option<&LsmTreeState>) -> &[SortedRun]
     ensures { result.now ≡ runs_in (option_copied tree.entry) }
 {
@@ -85,34 +76,40 @@ fn runs_in(tree: Option<&LsmTreeState>) -> &[SortedRun]
     }
 }
 
-// Copies of the views that the sources name, in the order of the sources.
+// Copies of the flushes that the sources name in the tree, in the order of the sources.
 fn named_views(
     alloc: Global,
     sources: &[SourceId],
-    views: &[SsTableView],
+    tree: Option<&LsmTreeState>,
 ) -> Result<Vec<SsTableView>, AllocError>
-    ensures { IfOk result (λ named. named.items ≡ named_views sources.now views.now) }
+    ensures { IfOk result
+        (λ named. named.items ≡ named_views sources.now (l0_in (option_copied tree.entry))) }
 {
     let mut named = Vec::new(alloc);
     'sources: for source in sources {
-        add_copy(&mut named, named_view(source, views))?;
+        add_copy(&mut named, named_view(source, tree))?;
     }
     Ok(named)
 }
 
-fn named_view<'a>(source: &SourceId, views: &'a [SsTableView]) -> Option<&'a SsTableView>
-    ensures { option_copied result ≡ view_with (view_id_of source.now) views.now }
+fn named_view<'a>(source: &SourceId, tree: Option<&'a LsmTreeState>) -> Option<&'a SsTableView>
+    ensures { option_copied result
+        ≡ view_with (view_id_of source.now) (l0_in (option_copied tree.entry)) }
 {
     match source {
-        SourceId::SstView(id) => view_with(*id, views),
+        SourceId::SstView(id) => view_in(*id, tree),
         SourceId::SortedRun(_) => None,
     }
 }
 
-fn view_with(id: Ulid, views: &[SsTableView]) -> Option<&SsTableView>
-    ensures { option_copied result ≡ find (λ view. view.id == id) views.now }
+fn view_in(id: Ulid, tree: Option<&LsmTreeState>) -> Option<&SsTableView>
+    ensures { option_copied result
+        ≡ find (λ view. view.id == id) (l0_in (option_copied tree.entry)) }
 {
-    views.iter().find(|view| view.id == id)
+    match tree {
+        Some(tree) => tree.l0.with_id(id),
+        None => None,
+    }
 }
 
 // Copies of the runs that the sources name, in the order of the sources.

@@ -43,18 +43,6 @@ first_more gather g id xs i x begun old new below is so step =
     let more : gather (take (i + 1) xs) ≡ gather (take i xs) ++ gather (x ∷ []) = ap gather (take_more xs i x below ∙ ap (λ y. take i xs ++ y ∷ []) (sym is)) ∙ g.joins (take i xs) (x ∷ []) in
     then_first id (gather (take i xs)) (gather (x ∷ [])) begun old new so step ∙ ap (λ l. option_or begun (first_size id l)) (sym more)
 
--- One view more.
-pub one_view_more : (id : ℕ) (views : List View) (i : ℕ) (view : View) (begun old new : Option ℕ) → i < length views → view ≡ get_or views i view
-    → old ≡ option_or begun (first_size id (map (λ view. view.sst) (take i views))) → new ≡ option_or old (cond (view.sst.id == id) (Some view.sst.size) None)
-    → new ≡ option_or begun (first_size id (map (λ view. view.sst) (take (i + 1) views)))
-one_view_more id views i view begun old new below is so step =
-    first_more (map (λ (v : View). v.sst)) (record { joins = map-append (λ (v : View). v.sst) }) id views i view begun old new below is so
-    (step ∙ ap (option_or old) (by (view.sst.id == id)))
-  where
-    by : (b : Bool) → cond b (Some view.sst.size) None ≡ option_map (λ (table : SsTableHandle). table.size) (cond b (Some view.sst) None)
-    by true = refl
-    by false = refl
-
 -- One item more of a list whose items have tables.
 one_item_more : {X : Type 0} (tables : X → List SsTableHandle) (id : ℕ) (xs : List X) (i : ℕ) (x : X) (begun old new : Option ℕ) → i < length xs → x ≡ get_or xs i x
     → old ≡ option_or begun (first_size id (flat_map tables (take i xs))) → new ≡ option_or old (first_size id (tables x)) → new ≡ option_or begun (first_size id (flat_map tables (take (i + 1) xs)))

@@ -15,7 +15,7 @@ ghost use Rattle.fleet_level.specs.Sizes.{HasSizes};
 
 use crate::LevelOptions;
 use crate::sizes::run_size;
-use crate::used::{flush_sources, nodes_used, uses_any};
+use crate::used::{are_fewer, flush_sources, nodes_used, uses_any};
 use bytes::Bytes;
 use fleet_book::CompactorStateView;
 use fleet_jobs::{CompactionSpec, NodeSet, SourceId};
@@ -155,14 +155,13 @@ impl Picking {
             → OnOk result (SamePicks self.new (model.pick_flushes options.now handles
             (segment_of flushes (segment.now, tree.now)) self.old)) }
     {
-        let flushes = tree.l0.as_slice();
-        if (flushes.len() as u64) < options.l0_trigger {
+        if are_fewer(&tree.l0, options.l0_trigger) {
             return Ok(());
         }
-        if uses_any(&self.used, flushes) {
+        if uses_any(&self.used, &tree.l0) {
             return Ok(());
         }
-        let sources = flush_sources(alloc, flushes)?;
+        let sources = flush_sources(alloc, &tree.l0)?;
         self.pick_flushes_into(options, sizes, segment, sources, tree.compacted.as_slice())
     }
 

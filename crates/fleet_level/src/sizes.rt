@@ -12,7 +12,7 @@ ghost use Rattle.fleet_sched.specs.Views.{tree_handles};
 ghost use Rattle.fleet_level.specs.Sizes.{HasSizes, first_size, size_in, tables_of_runs, tables_of_trees};
 
 use fleet_rows::Ulid;
-use fleet_tree::{LsmTreeState, ManifestCore, SortedRun, SsTableHandle, SsTableView};
+use fleet_tree::{LsmTreeState, ManifestCore, SortedRun, SsTableHandle, Views};
 use std::alloc::{AllocError, Global};
 use std::collections::BTreeMap;
 
@@ -34,7 +34,7 @@ fn add_tree(sizes: &mut BTreeMap<Ulid, u64>, tree: &LsmTreeState) -> Result<(), 
     ensures { OnOk result ((id : ℕ) → get nat_cmp sizes.new id
         ≡ option_or (get nat_cmp sizes.old id) (first_size id (tree_handles tree.now))) }
 {
-    add_views(sizes, tree.l0.as_slice())?;
+    add_views(sizes, tree.l0.iter())?;
     add_runs(sizes, tree.compacted.as_slice())
 }
 
@@ -43,14 +43,14 @@ fn add_runs(sizes: &mut BTreeMap<Ulid, u64>, runs: &[SortedRun]) -> Result<(), A
         ≡ option_or (get nat_cmp sizes.old id) (first_size id (tables_of_runs runs.now))) }
 {
     'runs: for run in runs {
-        add_views(sizes, run.sst_views())?;
+        add_views(sizes, Views::of_slice(run.sst_views()))?;
     }
     Ok(())
 }
 
-fn add_views(sizes: &mut BTreeMap<Ulid, u64>, views: &[SsTableView]) -> Result<(), AllocError>
+fn add_views(sizes: &mut BTreeMap<Ulid, u64>, views: Views<'_>) -> Result<(), AllocError>
     ensures { OnOk result ((id : ℕ) → get nat_cmp sizes.new id ≡ option_or
-        (get nat_cmp sizes.old id) (first_size id (map (λ view. view.sst) views.now))) }
+        (get nat_cmp sizes.old id) (first_size id (map (λ view. view.sst) views.entry))) }
 {
     'views: for view in views {
         add_table(sizes, &view.sst)?;

@@ -1,6 +1,6 @@
 //! The nodes that jobs use.
 
-ghost use Rattle.std.specs.Prelude.{◌≡◌, ◌++◌, ◌∷◌, [], Some, filter, flat_map, map, IfOk, OnOk};
+ghost use Rattle.std.specs.Prelude.{◌≡◌, ◌++◌, ◌∷◌, [], Some, filter, flat_map, length, map, nat_lt, IfOk, OnOk};
 ghost use Rattle.std.specs.List.{list_any};
 ghost use Rattle.fleet_model.specs.Jobs.{nodes_of};
 ghost use Rattle.fleet_model.specs.Nodes.{L0, names_contain};
@@ -10,7 +10,7 @@ ghost use Rattle.fleet_sched.specs.Views.{open_records, shown_jobs};
 
 use fleet_book::{CompactorStateView, VersionedCompactions};
 use fleet_jobs::{Compaction, NodeSet, SourceId};
-use fleet_tree::SsTableView;
+use fleet_tree::FlushList;
 use std::alloc::{AllocError, Global};
 
 /// The nodes that the jobs that are shown use.
@@ -46,28 +46,38 @@ fn add_used_by(used: &mut NodeSet, job: &Compaction) -> Result<(), AllocError>
     Ok(())
 }
 
+/// Whether there are fewer flushes than this.
+pub fn are_fewer(flushes: &FlushList, count: u64) -> bool
+    ensures { result ≡ nat_lt (length flushes.now) count }
+{
+    flushes.len() < count
+}
+
 /// Whether one of these flushes is used.
-pub fn uses_any(used: &NodeSet, flushes: &[SsTableView]) -> bool
+pub fn uses_any(used: &NodeSet, flushes: &FlushList) -> bool
     ensures { result ≡ list_any (names_contain used.now) (map (λ view. L0 view.id) flushes.now) }
 {
     has_any(used, flushes)
 }
 
-fn has_any(used: &NodeSet, flushes: &[SsTableView]) -> bool
+fn has_any(used: &NodeSet, flushes: &FlushList) -> bool
     ensures { result ≡ list_any (λ view. names_contain used.now (L0 view.id)) flushes.now }
 {
-    flushes
-        .iter()
-        .any(|view| used.contains(SourceId::SstView(view.id)))
+    'flushes: for flush in flushes.iter() {
+        if used.contains(SourceId::SstView(flush.id)) {
+            return true;
+        }
+    }
+    false
 }
 
 /// The names of flushes as sources of a job.
-pub fn flush_sources(alloc: Global, flushes: &[SsTableView]) -> Result<Vec<SourceId>, AllocError>
+pub fn flush_sources(alloc: Global, flushes: &FlushList) -> Result<Vec<SourceId>, AllocError>
     ensures { IfOk result
         (λ sources. map name_of sources.items ≡ map (λ view. L0 view.id) flushes.now) }
 {
     let mut sources = Vec::new(alloc);
-    'flushes: for flush in flushes {
+    'flushes: for flush in flushes.iter() {
         sources.push(SourceId::SstView(flush.id))?;
     }
     Ok(sources)

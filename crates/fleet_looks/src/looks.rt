@@ -19,15 +19,22 @@ use fleet_book::Compactions;
 use fleet_rows::{RowEntry, SlateDBError, Ulid};
 use fleet_store::MemStore;
 use fleet_text::{NodeName, Reply, answers, listings};
-use fleet_tree::{LsmTreeState, ManifestCore, SortedRun, SsTableHandle, SsTableView, TableList};
+use fleet_tree::{
+    FlushList, LsmTreeState, ManifestCore, SortedRun, SsTableHandle, SsTableView, TableList,
+};
 use std::alloc::Global;
 
 // The flush's view with this name.
-fn view_with(views: &[SsTableView], name: u64) -> Option<&SsTableView>
+fn view_with(views: &FlushList, name: u64) -> Option<&SsTableView>
     ensures { option_copied result ≡ find (λ view. name == view.id) views.now }
 {
     let id = Ulid::from_parts(0, name as u128);
-    views.iter().find(|view| id == view.id)
+    'views: for view in views.iter() {
+        if id == view.id {
+            return Some(view);
+        }
+    }
+    None
 }
 
 // The run with this id.
@@ -69,7 +76,7 @@ fn flush_handles(
         ≡ option_map (map (λ view. view.sst)) (views_named (model.L0 name) tree.now)) }
     ensures memory { IsOkUnless result SlateDBError.Memory }
 {
-    match view_with(tree.l0.as_slice(), name) {
+    match view_with(&tree.l0, name) {
         Some(view) => Ok(Some(handle_of(alloc, view)?)),
         None => Ok(None),
     }

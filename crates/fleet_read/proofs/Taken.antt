@@ -1,5 +1,5 @@
 -- What a read has taken, table by table.
-use Rattle.std.proofs.Common.{◌≡◌, refl, sym, ◌∙◌, ap, subst, ℕ, zero, suc, ◌+◌, ◌<◌, ◌≤◌, List, [], ◌∷◌, ◌++◌, length, cond, Bool, true, false, Option, append_assoc, append-nil, take, drop, take-append-drop, slice_index_or, arith}
+use Rattle.std.proofs.Common.{◌≡◌, refl, sym, ◌∙◌, ap, subst, ℕ, zero, suc, ◌+◌, ◌<◌, ◌≤◌, List, [], ◌∷◌, ◌++◌, length, cond, Bool, true, false, Option, append_assoc, append-nil, take, slice_index_or, arith}
 use Rattle.std.specs.Prelude.{flat_map}
 use Rattle.std.specs.List.{AllByRecursion}
 use Rattle.std.proofs.lemmas.List.{take_all, take_more}
@@ -43,20 +43,36 @@ takes_both a b c xs ys p q = record {
 pub takes_same : (a b : KeyReading) (xs ys : List Row) → xs ≡ ys → TakesRows a xs b → TakesRows a ys b
 takes_same a b xs ys same p = record { key = p.key; seq = p.seq; moment = p.moment; found = λ older. p.found older ∙ ap (λ (w : List Row). found_with a (w ++ older)) same }
 
+view_parts : (store : Store) (key : List ℕ) (xs ys : List View) → view_rows store key (xs ++ ys) ≡ view_rows store key xs ++ view_rows store key ys
+view_parts store key xs ys = flat_map-append (λ (view : View). rows_of_key key (table_rows store.tables view.sst.id)) xs ys
+
+-- Whoever takes the tables of the views left as well takes those of all views.
+abbrev pub TakesLeft : Store → List ℕ → List View → List View → KeyReading → KeyReading → Type 0
+TakesLeft store key views left first now = (read : KeyReading) → TakesRows now (view_rows store key left) read → TakesRows first (view_rows store key views) read
+
 -- A row that hides the others was taken, so the tables left need not be looked at.
-pub views_hidden : (store : Store) (key : List ℕ) (views : List View) (i : ℕ) (first now : KeyReading) → TakesRows first (view_rows store key (take i views)) now → now.hides ≡ true → TakesRows first (view_rows store key views) now
-views_hidden store key views i first now so_far hides =
-    takes_same first now (view_rows store key (take i views) ++ view_rows store key (drop i views)) (view_rows store key views)
-    (sym (flat_map-append (λ (view : View). rows_of_key key (table_rows store.tables view.sst.id)) (take i views) (drop i views)) ∙ ap (view_rows store key) (take-append-drop i views))
-    (takes_both first now now (view_rows store key (take i views)) (view_rows store key (drop i views)) so_far (takes_hidden now (view_rows store key (drop i views)) hides))
+pub left_hidden : (store : Store) (key : List ℕ) (views left : List View) (first now : KeyReading) → TakesLeft store key views left first now → now.hides ≡ true → TakesRows first (view_rows store key views) now
+left_hidden store key views left first now all hides = all now (takes_hidden now (view_rows store key left) hides)
+
+-- No table is left.
+pub left_none : (store : Store) (key : List ℕ) (views left : List View) (first now : KeyReading) → TakesLeft store key views left first now → left ≡ [] → TakesRows first (view_rows store key views) now
+left_none store key views left first now all none = all now (takes_none now (view_rows store key left) (ap (view_rows store key) none))
+
+-- The table of one of the views left was taken.
+pub left_one : (store : Store) (key : List ℕ) (views left : List View) (view : View) (rest : List View) (first now new : KeyReading) → TakesLeft store key views left first now → left ≡ view ∷ rest
+    → TakesRows now (view_rows store key (view ∷ [])) new → TakesLeft store key views rest first new
+left_one store key views left view rest first now new all is one = λ read more.
+    all read (takes_same now read (view_rows store key (view ∷ []) ++ view_rows store key rest) (view_rows store key left)
+    (sym (view_parts store key (view ∷ []) rest) ∙ ap (view_rows store key) (sym is)) (takes_both now new read (view_rows store key (view ∷ [])) (view_rows store key rest) one more))
+
+-- The views left are held.
+pub left_held : (P : View → Type 0) (left : List View) (view : View) (rest : List View) → left ≡ view ∷ rest → AllByRecursion P left → P view × AllByRecursion P rest
+left_held P left view rest is all = subst (AllByRecursion P) is all
 
 -- ---- runs
 
 abbrev run_views : SortedRun → List View
 run_views run = run.views
-
-view_parts : (store : Store) (key : List ℕ) (xs ys : List View) → view_rows store key (xs ++ ys) ≡ view_rows store key xs ++ view_rows store key ys
-view_parts store key xs ys = flat_map-append (λ (view : View). rows_of_key key (table_rows store.tables view.sst.id)) xs ys
 
 -- One more run of the tree was taken.
 pub run_taken : (store : Store) (key : List ℕ) (flushes : List View) (runs : List SortedRun) (i : ℕ) (run : SortedRun) (views : List View) (first now new : KeyReading) → i < length runs → run ≡ slice_index_or runs i run → views ≡ run.views

@@ -18,10 +18,10 @@ use crate::ReadAnswer;
 use bytes::Bytes;
 use fleet_fold::MergeOperator;
 use fleet_range::BytesRange;
-use fleet_rows::SlateDBError;
+use fleet_rows::{SlateDBError, key_order};
 use fleet_scan::{KeyAnswer, KeyRead};
 use fleet_store::MemStore;
-use fleet_tree::{LsmTreeState, SsTableView};
+use fleet_tree::{LsmTreeState, SsTableView, Views};
 use std::alloc::Global;
 use std::ops::Bound;
 
@@ -30,7 +30,8 @@ fn is_outside(view: &SsTableView, key: &[u8]) -> bool
     ensures { result ≡ (is_lt (key_cmp key.now view.now.sst.first_key)
         || is_gt (key_cmp key.now view.now.sst.last_key)) }
 {
-    key.cmp(view.sst.first_key.as_slice()).is_lt() || key.cmp(view.sst.last_key.as_slice()).is_gt()
+    key_order(key, view.sst.first_key.as_slice()).is_lt()
+        || key_order(key, view.sst.last_key.as_slice()).is_gt()
 }
 
 /// Whether reads at this sequence or moment are not answered any more.
@@ -79,15 +80,15 @@ fn take_table(
 fn take_tables(
     alloc: Global,
     store: &MemStore,
-    views: &[SsTableView],
+    views: Views<'_>,
     key: &[u8],
     range: &BytesRange,
     read: &mut KeyRead,
 ) -> Result<(), SlateDBError>
     requires range { range_of range.now ≡ only_key key.now }
-    requires held { AllByRecursion (IsHeldView store.now.world.store) views.now }
+    requires held { AllByRecursion (IsHeldView store.now.world.store) views }
     ensures taken { OnOk result (TakesRows read.old
-        (view_rows store.now.world.store key.now views.now) read.new) }
+        (view_rows store.now.world.store key.now views.entry) read.new) }
     ensures memory { IsOkUnless result SlateDBError.Memory }
 {
     'views: for view in views {
@@ -114,9 +115,10 @@ fn take_tree(
         (view_rows store.now.world.store key.now (tree_views tree.now)) read.new) }
     ensures memory { IsOkUnless result SlateDBError.Memory }
 {
-    take_tables(alloc, store, tree.l0.as_slice(), key, range, read)?;
+    take_tables(alloc, store, tree.l0.iter(), key, range, read)?;
     'runs: for run in tree.compacted.as_slice() {
-        take_tables(alloc, store, run.views.as_slice(), key, range, read)?;
+        let views = Views::of_slice(run.views.as_slice());
+        take_tables(alloc, store, views, key, range, read)?;
     }
     Ok(())
 }

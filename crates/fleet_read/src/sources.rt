@@ -11,7 +11,7 @@ use fleet_rows::SlateDBError;
 use fleet_scan::ScanSources;
 use fleet_store::MemStore;
 use fleet_table::RunData;
-use fleet_tree::{LsmTreeState, SortedRun, SsTableView};
+use fleet_tree::{FlushList, LsmTreeState, SortedRun, SsTableView};
 use std::alloc::Global;
 use std::ops::Bound;
 
@@ -104,7 +104,7 @@ fn flush_source(
 fn add_flushes(
     alloc: Global,
     store: &MemStore,
-    flushes: &[SsTableView],
+    flushes: &FlushList,
     range: &BytesRange,
     sources: &mut ScanSources,
 ) -> Result<(), SlateDBError>
@@ -112,7 +112,7 @@ fn add_flushes(
         ++ flush_sources store.now.world.store (range_of range.now) flushes.now) }
     ensures memory { IsOkUnless result SlateDBError.Memory }
 {
-    'flushes: for view in flushes {
+    'flushes: for view in flushes.iter() {
         sources.push(flush_source(alloc, store, view, range)?)?;
     }
     Ok(())
@@ -149,7 +149,7 @@ pub(crate) fn tree_sources(
     ensures memory { IsOkUnless result SlateDBError.Memory }
 {
     let mut sources = ScanSources::new(alloc);
-    add_flushes(alloc, store, tree.l0.as_slice(), range, &mut sources)?;
+    add_flushes(alloc, store, &tree.l0, range, &mut sources)?;
     add_runs(alloc, store, tree.compacted.as_slice(), range, &mut sources)?;
     Ok(sources)
 }

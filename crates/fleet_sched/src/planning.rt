@@ -58,7 +58,7 @@ fn add_tree(
 {
     trees.push(Planned {
         segment: Clone::clone(segment)?,
-        flushes: sized_flushes(alloc, tree.l0.as_slice())?,
+        flushes: sized_flushes(alloc, &tree.l0)?,
         runs: sized_runs(alloc, tree.compacted.as_slice())?,
         used: nodes_used(alloc, state, segment.as_slice())?,
     })?;

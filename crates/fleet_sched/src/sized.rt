@@ -9,7 +9,7 @@ ghost use Rattle.fleet_sched.specs.Sizes.{flush_in, run_in};
 
 use fleet_jobs::SourceId;
 use fleet_rows::Ulid;
-use fleet_tree::{SortedRun, SsTableView};
+use fleet_tree::{FlushList, SortedRun, SsTableView};
 use std::alloc::{AllocError, Global};
 use std::marker::Model;
 
@@ -47,11 +47,11 @@ impl Model for SizedRun {
     ghost inverse = { λ v. record { id = v.id; size = v.size } };
 }
 
-pub fn sized_flushes(alloc: Global, views: &[SsTableView]) -> Result<Vec<SizedFlush>, AllocError>
+pub fn sized_flushes(alloc: Global, views: &FlushList) -> Result<Vec<SizedFlush>, AllocError>
     ensures { IfOk result (λ flushes. flushes.items ≡ map flush_in views.now) }
 {
     let mut flushes = Vec::new(alloc);
-    'views: for view in views {
+    'views: for view in views.iter() {
         flushes.push(sized_flush(view))?;
     }
     Ok(flushes)

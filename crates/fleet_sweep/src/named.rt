@@ -11,7 +11,7 @@ use fleet_book::VersionedCompactions;
 use fleet_jobs::Compaction;
 use fleet_plan::Subcompaction;
 use fleet_rows::Ulid;
-use fleet_tree::{LsmTreeState, ManifestCore, SortedRun, SsTableHandle, SsTableView, TableList};
+use fleet_tree::{LsmTreeState, ManifestCore, SortedRun, SsTableHandle, TableList, Views};
 use std::alloc::{AllocError, Global};
 
 /// The ids of the tables that the nodes of all trees name, and of those that jobs that are not over
@@ -45,7 +45,7 @@ fn add_segments(ids: &mut Vec<Ulid>, segments: &[(Bytes, LsmTreeState)]) -> Resu
 fn add_tree(ids: &mut Vec<Ulid>, tree: &LsmTreeState) -> Result<(), AllocError>
     ensures { OnOk result (ids.new.items ≡ ids.old.items ++ ids_in_tree tree.now) }
 {
-    add_views(ids, tree.l0.as_slice())?;
+    add_views(ids, tree.l0.iter())?;
     add_runs(ids, tree.compacted.as_slice())
 }
 
@@ -53,14 +53,14 @@ fn add_runs(ids: &mut Vec<Ulid>, runs: &[SortedRun]) -> Result<(), AllocError>
     ensures { OnOk result (ids.new.items ≡ ids.old.items ++ ids_in_runs runs.now) }
 {
     'runs: for run in runs {
-        add_views(ids, run.sst_views())?;
+        add_views(ids, Views::of_slice(run.sst_views()))?;
     }
     Ok(())
 }
 
-fn add_views(ids: &mut Vec<Ulid>, views: &[SsTableView]) -> Result<(), AllocError>
+fn add_views(ids: &mut Vec<Ulid>, views: Views<'_>) -> Result<(), AllocError>
     ensures { OnOk result
-        (ids.new.items ≡ ids.old.items ++ map (λ view. view.sst.id) views.now) }
+        (ids.new.items ≡ ids.old.items ++ map (λ view. view.sst.id) views.entry) }
 {
     'views: for view in views {
         ids.push(view.sst.id)?;

@@ -145,7 +145,7 @@ pub fn nodes_text(alloc: Global, tree: &LsmTreeState) -> Result<String, AllocErr
     ensures { IfOk result (λ text. string_bytes text ≡ words.nodes_text (tree_nodes tree.now)) }
 {
     let mut nodes = Vec::new(alloc);
-    'flushes: for view in tree.l0.as_slice() {
+    'flushes: for view in tree.l0.iter() {
         nodes.push(flush_text(alloc, view.id)?)?;
     }
     'runs: for run in tree.compacted.as_slice() {

@@ -2,3 +2,4 @@ pub mod Sizes
 pub mod Flushes
 pub mod ModelFlushes
 pub mod Tracking
+pub mod Chunks

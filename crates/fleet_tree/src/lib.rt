@@ -2,6 +2,7 @@
 #![tactic(auto)]
 
 mod block;
+mod flush_list;
 mod handle;
 mod laws;
 mod list;
@@ -13,6 +14,7 @@ mod trees;
 mod view;
 
 pub use block::BlockMeta;
+pub use flush_list::{FlushList, Views};
 pub use handle::SsTableHandle;
 pub use laws::flushes_are_the_models;
 pub use list::{

@@ -216,7 +216,7 @@ pub type TableList = SharedList<SsTableHandle>;
 /// The tables that a job wrote: for each of its ranges a list, in the order of the ranges.
 pub type OutputList = ListOf<TableList>;
 
-/// The tables of a run, or the flushes of a tree, newest first.
+/// The tables of a run, or a chunk of the flushes of a tree.
 pub type ViewList = SharedList<SsTableView>;
 
 /// The runs of a tree, by falling id.

@@ -1,9 +1,9 @@
 //! The tree of a segment.
 
-ghost use Rattle.std.specs.Prelude.{◌≡◌, ◌==◌, [], length, None, not, take_while, IfOk, IsOkUnless, OnErr, OnOk};
+ghost use Rattle.std.specs.Prelude.{◌≡◌, [], None, IfOk, IsOkUnless, OnErr, OnOk};
 ghost use Rattle.fleet_tree.specs.Trees.{empty_tree, flushed_on, from_writer, newer_than};
 
-use crate::{RunList, SsTableView, ViewList};
+use crate::{FlushList, RunList, SsTableView};
 use fleet_rows::{Copies, SlateDBError, Ulid};
 use std::alloc::{AllocError, Global};
 
@@ -12,7 +12,7 @@ use std::alloc::{AllocError, Global};
 #[derive(Clone, Debug, Drop, PartialEq, Eq)]
 pub struct LsmTreeState {
     /// The flushes that no job has taken yet, newest first.
-    pub l0: ViewList,
+    pub l0: FlushList,
     /// The runs, by falling id.
     pub compacted: RunList,
     /// The newest flush that a job took or dropped, if there is one. This flush and older ones must
@@ -28,7 +28,7 @@ impl LsmTreeState {
         ensures { result ≡ empty_tree }
     {
         LsmTreeState {
-            l0: ViewList::new(alloc),
+            l0: FlushList::new(alloc),
             compacted: RunList::new(alloc),
             last_compacted_l0_sst_view_id: None,
             last_seq: None,
@@ -42,7 +42,7 @@ impl LsmTreeState {
         ensures err { OnErr result (self.new ≡ self.old) }
         ensures memory { IsOkUnless result SlateDBError.Memory }
     {
-        self.l0.insert(0, view)?;
+        self.l0.push_front(view)?;
         self.last_seq = Some(last_seq);
         Ok(())
     }
@@ -81,18 +81,12 @@ pub fn merge_from_writer(
 }
 
 // The views before the one with the watermark's id, or all views if none has it.
-fn newer_than(watermark: Option<Ulid>, views: &ViewList) -> Result<ViewList, SlateDBError>
+fn newer_than(watermark: Option<Ulid>, views: &FlushList) -> Result<FlushList, SlateDBError>
     ensures views { IfOk result (λ newer. newer ≡ newer_than watermark views.now) }
     ensures memory { IsOkUnless result SlateDBError.Memory }
 {
-    let Some(mark) = watermark else {
-        return views.clone();
-    };
-    views.first(newer_count(views.as_slice(), mark) as u64)
-}
-
-fn newer_count(views: &[SsTableView], mark: Ulid) -> usize
-    ensures { result ≡ length (take_while (λ view. not (view.id == mark)) views.now) }
-{
-    views.iter().take_while(|view| view.id != mark).count()
+    match watermark {
+        Some(mark) => views.before(mark),
+        None => views.clone(),
+    }
 }

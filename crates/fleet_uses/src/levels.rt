@@ -13,12 +13,12 @@ use fleet_level::{LevelOptions, LevelScheduler};
 use fleet_rows::SlateDBError;
 use fleet_sched::CompactionScheduler;
 use fleet_tree::{
-    LsmTreeState, Manifest, ManifestCore, SegmentList, TrackerList, VersionedManifest, ViewList,
+    FlushList, LsmTreeState, Manifest, ManifestCore, SegmentList, TrackerList, VersionedManifest,
 };
 use std::alloc::Global;
 
 // A store whose root has these flushes, before its first job.
-fn state_with(alloc: Global, flushes: ViewList) -> CompactorStateView
+fn state_with(alloc: Global, flushes: FlushList) -> CompactorStateView
     ensures { result ≡ state_with flushes }
 {
     let mut tree = LsmTreeState::new(alloc);
@@ -46,7 +46,7 @@ fn state_with(alloc: Global, flushes: ViewList) -> CompactorStateView
 pub fn flush_jobs(
     alloc: Global,
     options: LevelOptions,
-    flushes: ViewList,
+    flushes: FlushList,
 ) -> Result<Vec<CompactionSpec>, SlateDBError>
     ensures jobs { (run_flushes : RunFlushes)
         → Proposes (level_picks options 4 (view_of run_flushes (state_with flushes))) result }

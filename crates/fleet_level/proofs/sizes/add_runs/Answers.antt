@@ -10,4 +10,4 @@ use Rattle.fleet_level.proofs.sizes.add_runs.Goals as goal
 pub runs-preserved : goal.runs-preserved
 runs-preserved c = λ id.
     one_run_more id c.args.runs.now c.runs.run-index c.run-item.result _ _ _ c.runs-test.true c.run-item.is (c.runs.invariant id)
-    (c.in_ok-add_views.ensures id ∙ ap (λ (views : List View). option_or (get nat_cmp c.runs.sizes id) (first_size id (map (λ view. view.sst) views))) c.sst_views.ensures)
+    (c.in_ok-add_views.ensures id ∙ ap (λ (views : List View). option_or (get nat_cmp c.runs.sizes id) (first_size id (map (λ view. view.sst) views))) (c.of_slice.ensures ∙ c.sst_views.ensures))

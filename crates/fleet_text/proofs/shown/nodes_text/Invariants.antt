@@ -6,7 +6,7 @@ use Rattle.script_model.specs.Words.{node_text}
 use Rattle.fleet_text.proofs.shown.nodes_text.Given as goal
 
 abbrev pub invariant-flushes : goal.invariant-flushes
-invariant-flushes l = map string_bytes l.nodes.items ≡ map node_text (map (λ (view : View). L0 view.id) (take l.view-index l.tree.l0))
+invariant-flushes l = map string_bytes l.nodes.items ++ map node_text (map (λ (view : View). L0 view.id) l.view-iterator) ≡ map node_text (map (λ (view : View). L0 view.id) l.tree.l0)
 
 abbrev pub invariant-runs : goal.invariant-runs
 invariant-runs l = map string_bytes l.nodes.items ≡ map node_text (map (λ (view : View). L0 view.id) l.tree.l0 ++ map (λ (run : SortedRun). Run run.id) (take l.run-index l.tree.compacted))
