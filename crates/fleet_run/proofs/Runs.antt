@@ -12,7 +12,8 @@ use Rattle.script_model.specs.Follows.{LineStep, ScriptRun}
 use Rattle.fleet_run.proofs.MoreLines.{run-more}
 use Rattle.fleet_run.specs.declared.script.FleetError.{FleetError}
 use Rattle.fleet_run.specs.Program.{ReadWhole, ReadFront, RunsFirst}
-use Rattle.fleet_run.specs.Served.{inputs_of, BeginsScript, Ran, RanButTheEnd, RanLine, RanLineShort, RunsFront, RunsUpToFault, Served, ServedFront, ServedUpToFault}
+use Rattle.fleet_settle.specs.Steps.{inputs_of}
+use Rattle.fleet_run.specs.Served.{BeginsScript, Ran, RanButTheEnd, RanLine, RanLineShort, RunsFront, RunsUpToFault, Served, ServedFront, ServedUpToFault}
 use Rattle.fleet_run.specs.SourceAndSink.{SinkView, SourceView, Took, TookNothing, TookShort}
 use Rattle.fleet_run.proofs.Written.{took_none, took_more, took_kept}
 

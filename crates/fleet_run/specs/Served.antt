@@ -1,17 +1,11 @@
 -- The result of running a script: the replies that were written, and the state of the fleet that is left.
 use Rattle.std.specs.Prelude.{◌≡◌, ◌≢◌, ℕ, List, [], ◌∷◌, ◌++◌}
 use Rattle.std.specs.List.{concat}
-use Rattle.row_model.specs.Fold.{Operator}
-use Rattle.fleet_model.specs.Work.Scheduler.{Scheduler}
 use Rattle.script_model.specs.Script.{Line, IsScript}
 use Rattle.script_model.specs.Grammars.{served_grammar}
 use Rattle.script_model.specs.States.{Inputs, FleetOptions, State, fresh_state}
 use Rattle.script_model.specs.Follows.{LineStep, ScriptRun, Follows}
 use Rattle.fleet_run.specs.SourceAndSink.{SinkView, Took, TookShort}
-
--- What is given beside a script: the merge operator and the scheduler.
-abbrev pub inputs_of : Operator → Scheduler → Inputs
-inputs_of merge scheduler = record { merge = merge; scheduler = scheduler }
 
 -- ---- one line
 

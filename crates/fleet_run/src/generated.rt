@@ -2,8 +2,8 @@
 
 ghost use Rattle.std.specs.Prelude.{◌≡◌, ◌+◌, ◌*◌, ◌≤◌, ◌⊎◌, Err, IfErr, IfOk, OnOk, string_bytes};
 ghost use Rattle.fleet_lines.specs.Fleets.{IsFresh, options_of, state_of};
+ghost use Rattle.fleet_settle.specs.Steps.{inputs_of};
 ghost use Rattle.fleet_run.specs.SourceAndSink.{Rose, TookNothing};
-ghost use Rattle.fleet_run.specs.Served.{inputs_of};
 ghost use Rattle.fleet_run.specs.Program.{WritesSummary, WritesSummaryShort, summary};
 ghost use Rattle.fleet_run.specs.Generating.{RunsCounted};
 ghost use Rattle.fleet_run.specs.declared.script.FleetError.TheVariants.{Memory, WriteFault};

@@ -6,8 +6,9 @@ ghost use Rattle.script_model.specs.Script as model;
 ghost use Rattle.script_model.specs.Grammars.{is_served, served_grammar};
 ghost use Rattle.fleet_text.specs.Lines.{line_of, lines_of};
 ghost use Rattle.fleet_lines.specs.Fleets.{IsFresh, IsServing, options_of, state_of};
+ghost use Rattle.fleet_settle.specs.Steps.{inputs_of};
 ghost use Rattle.fleet_run.specs.SourceAndSink.{Rose, Took, TookShort, TookNothing};
-ghost use Rattle.fleet_run.specs.Served.{inputs_of, Served, ServedUpToFault, ServedFront, Ran, RanLine, RanLineShort, RunsUpToFault, RunsFront};
+ghost use Rattle.fleet_run.specs.Served.{Served, ServedUpToFault, ServedFront, Ran, RanLine, RanLineShort, RunsUpToFault, RunsFront};
 ghost use Rattle.fleet_run.specs.Errors.{IsScriptError, as_fleet_error};
 ghost use Rattle.fleet_run.specs.declared.script.FleetError.TheVariants.{BadLine, WriteFault, Memory};
 

@@ -1,7 +1,7 @@
 use Rattle.std.proofs.Common.{◌≡◌, ◌+◌, length}
 use Rattle.fleet_lines.specs.Fleets.{IsServing, options_of, state_of}
 use Rattle.fleet_text.specs.Lines.{lines_of}
-use Rattle.fleet_run.specs.Served.{inputs_of}
+use Rattle.fleet_settle.specs.Steps.{inputs_of}
 use Rattle.fleet_run.proofs.Runs.{RunSoFar}
 use Rattle.fleet_run.proofs.script.run_lines.Given as goal
 
