@@ -10,6 +10,7 @@ mod operators;
 mod watching;
 
 use case_words::flaw::Flaw;
+pub use operators::Sifting;
 use std::alloc::Global;
 use std::thread::Threads;
 

@@ -23,6 +23,8 @@ mod looks;
 #[cfg(test)]
 mod memory;
 #[cfg(test)]
+mod others;
+#[cfg(test)]
 mod parts;
 #[cfg(test)]
 mod ranges;
