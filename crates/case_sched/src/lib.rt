@@ -1,4 +1,4 @@
-//! Cases of single calls on the size-tiered scheduler.
+//! Cases of single calls on schedulers.
 #![tactic(auto)]
 
 mod unanswering;
@@ -9,6 +9,7 @@ use case_words::flaw::Flaw;
 use case_words::words::{bytes, number};
 use fleet_book::{CompactionRequest, Compactions, CompactorStateView, VersionedCompactions};
 use fleet_jobs::{Compaction, CompactionSpec};
+use fleet_level::{LevelOptions, LevelScheduler};
 use fleet_rows::{SlateDBError, Ulid};
 use fleet_sched::{
     CompactionScheduler, SizeTieredCompactionScheduler, SizeTieredCompactionSchedulerOptions,
@@ -25,6 +26,7 @@ pub fn answers(
 ) -> Result<bool, Flaw> {
     match name {
         "propose" => propose(alloc, words, answer)?,
+        "levels" => levels(alloc, words, answer)?,
         "validate" => validate(alloc, &tiered(), words, answer)?,
         "generate" => generate(alloc, &tiered(), words, answer)?,
         "unanswered" => unanswered(alloc, words, answer)?,
@@ -108,6 +110,21 @@ fn propose(alloc: Global, words: &[&str], answer: &mut String) -> Result<(), Fla
     };
     let options = options(least, most, factor)?;
     let scheduler = SizeTieredCompactionScheduler::new(options, number(at_once)?);
+    let view = view(alloc, trees, jobs)?;
+    tell_answer(scheduler.propose(alloc, &view), answer)
+}
+
+// `levels` takes the trigger, the base, the ratio, the number of jobs at once, trees and jobs. It
+// answers the proposals of the level scheduler.
+fn levels(alloc: Global, words: &[&str], answer: &mut String) -> Result<(), Flaw> {
+    let [trigger, base, ratio, at_once, trees, jobs] = words else {
+        return Err(Flaw::Words);
+    };
+    let Some(options) = LevelOptions::try_new(number(trigger)?, number(base)?, number(ratio)?)
+    else {
+        return Err(Flaw::Number);
+    };
+    let scheduler = LevelScheduler::new(options, number(at_once)?);
     let view = view(alloc, trees, jobs)?;
     tell_answer(scheduler.propose(alloc, &view), answer)
 }
