@@ -1,7 +1,7 @@
 //! A program for measurements. `fleet_bench N P STEP [SOURCES]` makes N rows in eight sources, or in
 //! as many as the last word says, and P of each 100 rows are operands. The rows go through the
 //! steps up to STEP: `rows`, `merge`, `fold` and `job`, or `tables` and then `range`, `ranges`,
-//! `scan` or `pages`.
+//! `table-merge`, `scan` or `pages`.
 //! The program prints how many rows were made, and how many the last step gave.
 #![tactic(auto)]
 

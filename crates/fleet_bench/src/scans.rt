@@ -1,14 +1,48 @@
-//! Scans of the sources as tables.
+//! Scans of the sources as tables, and the merge of their rows.
 
-ghost use Rattle.fleet_exec.specs.Ranges.{AreSources};
+ghost use Rattle.std.specs.Prelude.{◌≡◌, ⊤, map, IfOk};
+ghost use Rattle.fleet_iter.specs.MergeState.{IsSound};
+ghost use Rattle.fleet_exec.specs.Ranges.{AreSources, opened_states};
+ghost use Rattle.fleet_range.specs.Keys.{range_of};
+ghost use Rattle.fleet_table.specs.Iterator.{state_of};
 
 use bytes::Bytes;
 use fleet_fold::AppendOperator;
+use fleet_iter::MergeIterator;
 use fleet_range::BytesRange;
 use fleet_rows::SlateDBError;
 use fleet_scan::{KeyAnswer, Scan, ScanSources};
+use fleet_table::{RunData, RunIterator};
 use std::alloc::Global;
 use std::ops::Bound;
+
+// An iterator for each source over its rows in the range.
+fn run_iterators<'s>(
+    alloc: Global,
+    sources: &'s [RunData],
+    range: &'s BytesRange,
+) -> Result<Vec<RunIterator<'s>>, SlateDBError>
+    ensures rows { IfOk result
+        (λ iterators. map state_of iterators.items ≡ opened_states (range_of range.now) sources.now) }
+{
+    let mut iterators = Vec::with_capacity(alloc, sources.len())?;
+    'sources: for source in sources {
+        iterators.push(RunIterator::new(source, range))?;
+    }
+    Ok(iterators)
+}
+
+/// A merge of the rows of all sources in a range, without dedup.
+pub fn merge_runs<'s>(
+    alloc: Global,
+    sources: &'s ScanSources,
+    range: &'s BytesRange,
+) -> Result<MergeIterator<RunIterator<'s>>, SlateDBError>
+    ensures sound { IfOk result (IsSound (λ _. ⊤) state_of) }
+{
+    let iterators = run_iterators(alloc, sources.as_slice(), range)?;
+    Ok(MergeIterator::new(alloc, iterators).with_dedup(false))
+}
 
 fn range_from(start: Bound<Bytes>) -> Result<BytesRange, SlateDBError> {
     match BytesRange::try_new(start, Bound::Unbounded) {

@@ -7,10 +7,11 @@ ghost use Rattle.fleet_iter.specs.List.{giving};
 ghost use Rattle.fleet_iter.specs.MergeState.{state_of, IsSound};
 
 use crate::ranges::{count_finished, count_rows, make_runs};
-use crate::scans::count_scanned;
+use crate::scans::{count_scanned, merge_runs};
 use crate::sources::{Load, make_sources};
 use fleet_fold::{AppendOperator, MergeOperatorIterator, RetentionIterator};
 use fleet_iter::{ListIterator, MergeIterator, RowEntryIterator, merges_rise};
+use fleet_range::BytesRange;
 use fleet_rows::{Settings, SlateDBError};
 use std::alloc::Global;
 use std::thread::Threads;
@@ -33,6 +34,8 @@ pub enum Step {
     Range,
     /// Four ranges are finished from the tables, as in a job that writes the last run.
     Ranges,
+    /// The rows of the tables are merged.
+    TableMerge,
     /// The tables are scanned once.
     Scan,
     /// The tables are scanned in pages of 1,000 keys.
@@ -43,7 +46,7 @@ pub enum Step {
 const PAGE: u64 = 1_000;
 
 // All steps.
-const STEPS: [Step; 9] = [
+const STEPS: [Step; 10] = [
     Step::Rows,
     Step::Merge,
     Step::Fold,
@@ -51,6 +54,7 @@ const STEPS: [Step; 9] = [
     Step::Tables,
     Step::Range,
     Step::Ranges,
+    Step::TableMerge,
     Step::Scan,
     Step::Pages,
 ];
@@ -66,6 +70,7 @@ impl Step {
             Step::Tables => "tables",
             Step::Range => "range",
             Step::Ranges => "ranges",
+            Step::TableMerge => "table-merge",
             Step::Scan => "scan",
             Step::Pages => "pages",
         }
@@ -151,6 +156,15 @@ fn count_ranged<R: Threads + Sync>(
     ))
 }
 
+// Puts the rows into tables, and merges the rows of all tables. Returns how many rows were made, and
+// how many the merge gave.
+fn count_merged(alloc: Global, load: Load) -> Result<(u64, u64), SlateDBError> {
+    let runs = make_runs(alloc, load)?;
+    let all = BytesRange::unbounded();
+    let merged = merge_runs(alloc, &runs, &all)?;
+    Ok((count_rows(&runs), count_given(alloc, merged)?))
+}
+
 // Puts the rows into tables, and scans them in pages of `most` keys. Returns how many rows were made,
 // and how many keys have an answer.
 fn count_paged(alloc: Global, load: Load, most: u64) -> Result<(u64, u64), SlateDBError> {
@@ -171,6 +185,7 @@ pub fn count<R: Threads + Sync>(
         Step::Tables => count_ranged(rt, alloc, load, 0),
         Step::Range => count_ranged(rt, alloc, load, 1),
         Step::Ranges => count_ranged(rt, alloc, load, 4),
+        Step::TableMerge => count_merged(alloc, load),
         Step::Scan => count_paged(alloc, load, load.rows),
         Step::Pages => count_paged(alloc, load, PAGE),
         _ => count_listed(alloc, load, step),
