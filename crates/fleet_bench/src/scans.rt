@@ -1,7 +1,9 @@
 //! Scans of the sources as tables, and the merge of their rows.
 
-ghost use Rattle.std.specs.Prelude.{◌≡◌, ⊤, map, IfOk};
-ghost use Rattle.fleet_iter.specs.MergeState.{IsSound};
+ghost use Rattle.std.specs.Prelude.{◌≡◌, ⊤, false, map, IfOk};
+ghost use Rattle.fleet_iter.specs.Merge.{merged_lists, rows_left};
+ghost use Rattle.fleet_iter.specs.MergeState.{IsSound, merge_of};
+ghost use Rattle.fleet_iter.specs.declared.iterator.IterationOrder.TheVariants as in_order;
 ghost use Rattle.fleet_exec.specs.Ranges.{AreSources, opened_states};
 ghost use Rattle.fleet_range.specs.Keys.{range_of};
 ghost use Rattle.fleet_table.specs.Iterator.{state_of};
@@ -38,6 +40,9 @@ pub fn merge_runs<'s>(
     sources: &'s ScanSources,
     range: &'s BytesRange,
 ) -> Result<MergeIterator<RunIterator<'s>>, SlateDBError>
+    ensures all { IfOk result (λ merged. merge_of state_of merged ≡ merged_lists
+        in_order.Ascending (rows_left (opened_states (range_of range.now) sources.now))) }
+    ensures dedup { IfOk result (λ merged. merged.dedup ≡ false) }
     ensures sound { IfOk result (IsSound (λ _. ⊤) state_of) }
 {
     let iterators = run_iterators(alloc, sources.as_slice(), range)?;
