@@ -1,6 +1,6 @@
 //! The heads of a merge, of which it gives the least.
 
-ghost use Rattle.std.specs.Prelude.{◌≡◌, ◌+◌, ◌^◌, ◌<◌, ◌++◌, ◌∷◌, [], length, map, Some, None, slice_set, IfOk, IfErr, OnOk};
+ghost use Rattle.std.specs.Prelude.{◌≡◌, ◌+◌, ◌^◌, ◌<◌, ◌++◌, ◌∷◌, [], length, map, Some, None, if◌then◌else◌, slice_set, IfOk, IfErr, OnOk};
 ghost use Rattle.std.specs.Option.{option_map};
 ghost use Rattle.std.specs.List.{range_with_len};
 ghost use Rattle.fleet_rows.specs.Row.{row_of};
@@ -119,30 +119,39 @@ impl Heads {
         Ok(())
     }
 
-    /// Takes the least head. The next row of its source comes in its place.
+    /// Takes the least head in exchange for the next row of its source, if there is one.
     #[inline]
-    pub(crate) fn replace_least(&mut self, head: Option<RowEntry>) -> Option<RowEntry>
-        ensures taken { result ≡ option_map (λ p. p.1) (best self.old.order self.old.rows) }
+    pub(crate) fn swap_least(&mut self, head: &mut Option<RowEntry>)
+        ensures taken { head.new ≡ option_map (λ p. p.1) (best self.old.order self.old.rows) }
         ensures heads { self.new ≡ record self.old
-            { rows = refilled_heads (best self.old.order self.old.rows) head self.old.rows } }
+            { rows = refilled_heads (best self.old.order self.old.rows) head.old self.old.rows } }
     {
         match head {
-            Some(row) => self.exchange_least(row),
-            None => self.remove_least(),
+            Some(row) => {
+                if !self.exchange_least(row) {
+                    *head = None;
+                }
+            }
+            None => *head = self.remove_least(),
         }
     }
 
-    // Takes the least head, and puts a row of its source in its place. The heap moves it down once.
+    // Takes the least head in exchange for a row of its source. The heap moves that row down once.
+    // False if there is no head.
     #[inline]
-    fn exchange_least(&mut self, row: RowEntry) -> Option<RowEntry>
-        ensures taken { result ≡ option_map (λ p. p.1) (best self.old.order self.old.rows) }
-        ensures heads { self.new ≡ record self.old
-            { rows = refilled_heads (best self.old.order self.old.rows) (Some row) self.old.rows } }
+    fn exchange_least(&mut self, row: &mut RowEntry) -> bool
+        ensures taken { (if result then Some row.new else None)
+            ≡ option_map (λ p. p.1) (best self.old.order self.old.rows) }
+        ensures heads { self.new ≡ record self.old {
+          rows
+              = refilled_heads (best self.old.order self.old.rows) (Some row.old) self.old.rows;
+        } }
     {
         let Some(mut least) = self.entries.peek_mut() else {
-            return None;
+            return false;
         };
-        Some(mem::replace(&mut least.0.row, row))
+        mem::swap(&mut least.0.row, row);
+        true
     }
 
     // Takes the least head, whose source has no row left.

@@ -55,8 +55,9 @@ fn take_least<T: RowSource>(
     let Some((place, _)) = heads.least() else {
         return Ok(None);
     };
-    let head = sources[place].next_row(alloc)?;
-    Ok(heads.replace_least(head))
+    let mut head = sources[place].next_row(alloc)?;
+    heads.swap_least(&mut head);
+    Ok(head)
 }
 
 // Initialises a source and takes its first row.

@@ -86,9 +86,9 @@ returns-clause-ok g c =
     let y = c.next_row.new.self in
     let head = c.in_ok-head.head in
     let whole = takes_all order hs ss c.requires.taken k row at s (f y) head is (steps_of t.0 s (f y) head t.1 c.in_ok-head.ensures.next) in
-    let given : Some row ≡ c.replace_least.result = sym (c.replace_least.ensures.taken ∙ ap (option_map {U = RowEntry} (λ p. p.1)) at) in
-    let rows : set hs k head ≡ c.replace_least.new.self.rows = sym (ap (λ (h : HeadRows). h.rows) c.replace_least.ensures.heads ∙ ap (λ b. refilled_heads b head hs) at) in
+    let given : Some row ≡ c.swap_least.new.head = sym (c.swap_least.ensures.taken ∙ ap (option_map {U = RowEntry} (λ p. p.1)) at) in
+    let rows : set hs k head ≡ c.swap_least.new.self.rows = sym (ap (λ (h : HeadRows). h.rows) c.swap_least.ensures.heads ∙ ap (λ b. refilled_heads b head hs) at) in
     let A : Option RowEntry → _ = λ o. Takes order false hs ss (set hs k head) (set ss k (f y)) o in
-    let B : List IteratorState → _ = λ w. Takes order false hs ss (set hs k head) w c.replace_least.result in
-    let D : List (Option RowEntry) → _ = λ w. Takes order false hs ss w (map f (set xs k y)) c.replace_least.result in
+    let B : List IteratorState → _ = λ w. Takes order false hs ss (set hs k head) w c.swap_least.new.head in
+    let D : List (Option RowEntry) → _ = λ w. Takes order false hs ss w (map f (set xs k y)) c.swap_least.new.head in
     subst D rows (subst B (sym (map-set f xs k y)) (subst A given whole))

@@ -9,7 +9,7 @@ use Rattle.fleet_iter.proofs.Opened.{opened, boxed_exchanged, boxed_top}
 use Rattle.fleet_iter.proofs.Heaps.{taken_row, none_taken, refilled_rows, refilled_none, none_is_best, nil_of}
 use Rattle.fleet_iter.proofs.heads.Heads.exchange_least.Goals as goal
 
-nothing : (c : goal.Joined-row-2) → best c.self.inside.order (heads_of c.self.inside.count (map opened c.self.inside.entries.data.items)) ≡ None
+nothing : (c : goal.After-self-in_default-1) → best c.self.inside.order (heads_of c.self.inside.count (map opened c.self.inside.entries.data.items)) ≡ None
 nothing c =
     none_is_best c.self.inside.order c.self.inside.count _
     (ap (map opened) (nil_of _ (λ lt. let count = c.self.inside.entries.data.ok.0 in let none = c.in_default.ensures.variant.1 (omega (arith, count, lt)) in absurd (cc none))))
@@ -19,7 +19,7 @@ least c = boxed_top c.self.inside.order c.self.inside.count c.self.inside.entrie
 
 -- The heads after the row has come in the place of the least one.
 moved : (c : goal.After-self-2-1)
-    → AreHeads c.self.inside.order c.self.inside.count (map opened (heap_items c.drop-least.new.self.0)) × (heads_of c.self.inside.count (map opened (heap_items c.drop-least.new.self.0)) ≡ set (heads_of c.self.inside.count (map opened c.self.inside.entries.data.items)) c.in-Some.least.top.0.value.index (Some c.replace.new.dest))
+    → AreHeads c.self.inside.order c.self.inside.count (map opened (heap_items c.drop-least.new.self.0)) × (heads_of c.self.inside.count (map opened (heap_items c.drop-least.new.self.0)) ≡ set (heads_of c.self.inside.count (map opened c.self.inside.entries.data.items)) c.in-Some.least.top.0.value.index (Some c.swap.new.x))
 moved c =
     let count = c.in-Some.ensures.len in
     let capacity = c.in-Some.ensures.capacity in
@@ -36,16 +36,16 @@ returns-in_default-clause-taken c = none_taken _ _ c.self.view_is (nothing c)
 pub returns-in_default-clause-heads : goal.returns-in_default-clause-heads
 returns-in_default-clause-heads c =
     let kept = subst (λ o. IfNone o (c.peek_mut.follows.lender-at-none ≡ c.self.inside.entries)) c.in_default.is c.peek_mut.follows.holds-at-none in
-    ap (λ h. record { order = c.self.inside.order; rows = heads_of c.self.inside.count (map opened (heap_items h)) }) kept ∙ refilled_none _ _ (Some c.args.row) c.self.view_is (nothing c)
+    ap (λ h. record { order = c.self.inside.order; rows = heads_of c.self.inside.count (map opened (heap_items h)) }) kept ∙ refilled_none _ _ (Some c.args.row.now) c.self.view_is (nothing c)
 
 pub invariant_of-self-2 : goal.invariant_of-self-2
 invariant_of-self-2 c = let heads = (moved c).0 in search rules
 
 pub returns-clause-taken : goal.returns-clause-taken
-returns-clause-taken c = ap (λ (w : RowEntry). Some w) (c.replace.ensures.value ∙ (ap (λ (e : MergeIteratorHeapEntry). e.row) c.deref_mut-2.ensures.value ∙ ap (λ e. e.0.value.row) c.deref_mut.ensures.value)) ∙ taken_row _ _ _ _ c.self.view_is (least c)
+returns-clause-taken c = ap (λ (w : RowEntry). Some w) (c.swap.ensures.y_after ∙ (ap (λ (e : MergeIteratorHeapEntry). e.row) c.deref_mut-2.ensures.value ∙ ap (λ e. e.0.value.row) c.deref_mut.ensures.value)) ∙ taken_row _ _ _ _ c.self.view_is (least c)
 
 pub returns-clause-heads : goal.returns-clause-heads
 returns-clause-heads c =
     let was = heads_of c.self.inside.count (map opened c.self.inside.entries.data.items) in
-    let heads = refilled_rows _ _ _ _ (Some c.args.row) _ c.self.view_is (least c) ((moved c).1 ∙ ap (λ (w : RowEntry). set was c.in-Some.least.top.0.value.index (Some w)) c.replace.ensures.after) in
+    let heads = refilled_rows _ _ _ _ (Some c.args.row.now) _ c.self.view_is (least c) ((moved c).1 ∙ ap (λ (w : RowEntry). set was c.in-Some.least.top.0.value.index (Some w)) c.swap.ensures.x_after) in
     search rules
