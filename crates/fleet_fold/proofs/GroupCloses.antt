@@ -16,7 +16,7 @@ use Rattle.fleet_rows.specs.declared.errors.SlateDBError.{SlateDBError}
 use Rattle.fleet_fold.specs.declared.group.Group.{Group}
 use Rattle.fleet_fold.specs.Folded.{above, in_order, answer_of, batch_answer, batch_len, all_answers, over_base, operands_in, base_among, lesser_stamp, least_expiry, group_answer, row_of_answer}
 use Rattle.fleet_fold.specs.Groups.{IsMerged, Notes, Flushes, RefusesFlush, RefusesAs, Closes, RefusesClose, with_value}
-use Rattle.fleet_fold.proofs.GroupRows.{greatest-snoc, least-snoc, operands_in-append, base_among-append, group_base-append, no_operand, own_base}
+use Rattle.fleet_fold.proofs.GroupRows.{AllOperands, greatest-snoc, least-snoc, operands_in-append, base_among-append, group_base-append, no_operand, own_base}
 use Rattle.fleet_fold.proofs.GroupBatches.{all_ok}
 use Rattle.fleet_fold.proofs.GroupSteps.{all_merged, refuses_last}
 
@@ -37,30 +37,34 @@ base_is (value.Value bytes) is = refl
 base_is (value.Merge bytes) is = absurd (cc is)
 base_is value.Tombstone is = refl
 
-over_a_base : (c : Content) (bytes : List ℕ) → is_merge c ≡ false → merged_content (base_in c NoBase) bytes ≡ Value bytes
+pub over_a_base : (c : Content) (bytes : List ℕ) → is_merge c ≡ false → merged_content (base_in c NoBase) bytes ≡ Value bytes
 over_a_base (Value own) bytes is = refl
 over_a_base (Merge own) bytes is = absurd (cc is)
 over_a_base Tombstone bytes is = refl
 
 -- ---- the row of a group
 
-abbrev row_with : Content → List ℕ → ℕ → Option ℤ → Option ℤ → Row
+abbrev pub row_with : Content → List ℕ → ℕ → Option ℤ → Option ℤ → Row
 row_with content key seq created expires = record { key = key; content = content; seq = seq; created = created; expires = expires }
 
-same_row : (a b : Content) (k k' : List ℕ) (s s' : ℕ) (c c' e e' : Option ℤ) → a ≡ b → k ≡ k' → s ≡ s' → c ≡ c' → e ≡ e' → row_with a k s c e ≡ row_with b k' s' c' e'
+pub same_row : (a b : Content) (k k' : List ℕ) (s s' : ℕ) (c c' e e' : Option ℤ) → a ≡ b → k ≡ k' → s ≡ s' → c ≡ c' → e ≡ e' → row_with a k s c e ≡ row_with b k' s' c' e'
 same_row a b k k' s s' c c' e e' h p q r t =
     ap (λ (w : Content). row_with w k s c e) h ∙ (ap (λ (w : List ℕ). row_with b w s c e) p ∙ (ap (λ (w : ℕ). row_with b k' w c e) q
     ∙ (ap (λ (w : Option ℤ). row_with b k' s' w e) r ∙ ap (λ (w : Option ℤ). row_with b k' s' c' w) t)))
 
 module _ (merge : Operator) where
-  -- The answer of a group, over a base that is no operand or without a base.
-  answer_at : (first : Row) (taken base : List Row) (g : Group) → IsMerged merge first taken g → operands_in base ≡ [] → base_among base ≡ base → group_answer merge (first, taken ++ base) ≡ over_base merge first base (Ok g.folded.items)
-  answer_at first taken base g h none own =
+  -- The answer of a group whose batches have these results, over a base that is no operand or without a base.
+  pub answer_over : (first : Row) (taken base : List Row) (results : List (List ℕ)) → AllOperands (first ∷ taken) → map (batch_answer merge first) (batches batch_len (first ∷ taken)) ≡ map Ok results → operands_in base ≡ [] → base_among base ≡ base
+      → group_answer merge (first, taken ++ base) ≡ over_base merge first base (Ok results)
+  answer_over first taken base results all merged none own =
       let A : List Row → Result (List ℕ) SlateDBError = batch_answer merge first in
-      ap (λ (w : List Row). over_base merge first w (all_answers (map A (batches batch_len (first ∷ operands_in (taken ++ base)))))) (base_among-append taken base h.operands.1 ∙ own)
+      ap (λ (w : List Row). over_base merge first w (all_answers (map A (batches batch_len (first ∷ operands_in (taken ++ base)))))) (base_among-append taken base all.1 ∙ own)
       ∙ ap (over_base merge first base)
-      (ap (λ (w : List Row). all_answers (map A (batches batch_len (first ∷ w)))) (operands_in-append taken base h.operands.1 ∙ (ap (λ (w : List Row). taken ++ w) none ∙ append-nil taken))
-      ∙ (ap all_answers h.folded ∙ all_ok g.folded.items))
+      (ap (λ (w : List Row). all_answers (map A (batches batch_len (first ∷ w)))) (operands_in-append taken base all.1 ∙ (ap (λ (w : List Row). taken ++ w) none ∙ append-nil taken))
+      ∙ (ap all_answers merged ∙ all_ok results))
+
+  answer_at : (first : Row) (taken base : List Row) (g : Group) → IsMerged merge first taken g → operands_in base ≡ [] → base_among base ≡ base → group_answer merge (first, taken ++ base) ≡ over_base merge first base (Ok g.folded.items)
+  answer_at first taken base g h none own = answer_over first taken base g.folded.items h.operands h.folded none own
 
   -- A group without a base becomes its row.
   pub closes_alone : (old g : Group) (bytes : List ℕ) → Flushes merge old g → answer_of (fold_bytes merge g.key None (reverse g.folded.items)) ≡ Ok bytes → Closes merge old [] (with_value g (Merge bytes))
@@ -89,11 +93,11 @@ module _ (merge : Operator) where
       or_none None = refl
       or_none (Some a) = refl
 
-  in_order_is : (seq : ℕ) (late : Option ℕ) (answer : Result (List ℕ) SlateDBError) → in_order {A = Unit {0}} seq late (Ok tt) ≡ Ok tt → in_order seq late answer ≡ answer
+  pub in_order_is : (seq : ℕ) (late : Option ℕ) (answer : Result (List ℕ) SlateDBError) → in_order {A = Unit {0}} seq late (Ok tt) ≡ Ok tt → in_order seq late answer ≡ answer
   in_order_is seq None answer h = refl
   in_order_is seq (Some next) answer h = absurd (cc h)
 
-  in_order_not : (seq : ℕ) (late : Option ℕ) (answer : Result (List ℕ) SlateDBError) (e : SlateDBError) → in_order {A = Unit {0}} seq late (Ok tt) ≡ Err e → in_order seq late answer ≡ Err e
+  pub in_order_not : (seq : ℕ) (late : Option ℕ) (answer : Result (List ℕ) SlateDBError) (e : SlateDBError) → in_order {A = Unit {0}} seq late (Ok tt) ≡ Err e → in_order seq late answer ≡ Err e
   in_order_not seq None answer e h = absurd (cc h)
   in_order_not seq (Some next) answer e h = let is : InvalidSequenceOrder seq next ≡ e = cc in ap Err is
 

@@ -1,3 +1,4 @@
+pub mod AlikeGroups
 pub mod AllKept
 pub mod Batches
 pub mod Filters
@@ -5,6 +6,7 @@ pub mod FoldRefusals
 pub mod FoldedRows
 pub mod FoldedSeeks
 pub mod Folds
+pub mod GroupAtOnce
 pub mod GroupBatches
 pub mod GroupCloses
 pub mod GroupRows
@@ -22,7 +24,11 @@ pub mod Joining
 pub mod KeptNexts
 pub mod KeptRows
 pub mod Keys
+pub mod LoneRows
+pub mod PassedKeys
+pub mod PassedRows
 pub mod Plain
+pub mod ReadRows
 pub mod Rising
 pub mod Seeks
 pub mod Unfolded

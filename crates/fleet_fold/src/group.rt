@@ -1,6 +1,6 @@
 //! A group of operands, which becomes one row.
 
-ghost use Rattle.std.specs.Prelude.{◌≡◌, [], ◌∷◌, true, false, Ok, IfOk, IfErr, OnOk, IsOkUnless};
+ghost use Rattle.std.specs.Prelude.{◌≡◌, [], ◌∷◌, true, false, None, Ok, IfOk, IfErr, IfSome, OnOk, IsOkUnless, reverse};
 ghost use Rattle.row_model.specs.FoldedRows.{greater_stamp, same_stamp};
 ghost use Rattle.row_model.specs.Fold.{Operator, fold_bytes};
 ghost use Rattle.row_model.specs.Rows.{is_operand};
@@ -10,7 +10,7 @@ ghost use Rattle.fleet_fold.specs.Folded.{lesser_stamp, same_group, opens, in_or
 ghost use Rattle.fleet_fold.specs.Groups.{RefusesAs, with_value, Gathers, Notes, Flushes, RefusesFlush, FlushesFull, RefusesFull, Pushes, Adds, RefusesAdd, Closes, RefusesClose};
 
 use crate::BatchMerger;
-use crate::keeping::is_operand;
+use crate::keeping::{are_same, is_operand};
 use bytes::Bytes;
 use fleet_rows::{RowEntry, SlateDBError, ValueDeletable};
 use std::alloc::{AllocError, Global};
@@ -113,6 +113,7 @@ pub(crate) struct Group {
 
 impl Group {
     /// Makes the group that a row opens.
+    #[inline(always)]
     pub(crate) fn new(alloc: Global, row: RowEntry) -> Result<Group, SlateDBError>
         requires operand { is_operand (row_of row) ≡ true }
         ensures ok { IfOk result
@@ -144,14 +145,16 @@ impl Group {
 
     /// Whether a row belongs to the group. It has the group's key, and the expiry of the first row
     /// unless the rule merges different ones.
+    #[inline]
     pub(crate) fn takes(&self, rule: GroupRule, row: &RowEntry) -> bool
         ensures { result ≡ same_group rule self.now.key self.now.stamp (row_of row.now) }
     {
-        self.key == row.key
+        are_same(&self.key, &row.key)
             && (rule.merge_different_expire_ts || same_stamp(self.stamp, row.expire_ts))
     }
 
     // Notes a row's sequence and stamps.
+    #[inline]
     fn note(&mut self, row: &RowEntry)
         ensures { Notes self.old (row_of row.now) self.new }
     {
@@ -164,6 +167,7 @@ impl Group {
 
     // Refuses the group with `InvalidSequenceOrder` if a row has a sequence above that of the first
     // row.
+    #[inline]
     fn check(&self) -> Result<(), SlateDBError>
         ensures { result ≡ in_order self.now.seq self.now.late (Ok tt) }
     {
@@ -243,14 +247,47 @@ impl Group {
     }
 
     // The group's row with this content.
+    #[inline(always)]
     fn into_row(self, value: ValueDeletable) -> RowEntry
         ensures { row_of result ≡ with_value self (content_of value) }
     {
         RowEntry::new(self.key, value, self.seq, self.created, self.expires)
     }
 
-    /// Makes the row of a group without a base. Its content is an operand.
-    pub(crate) fn close<B: BatchMerger>(
+    // The bytes that the waiting operands merge to in one call. None if batches are merged already,
+    // if a row is out of order, or if the operator answers with an error. It does not change the
+    // group.
+    #[inline(always)]
+    fn merged_at_once<B: BatchMerger>(
+        &mut self,
+        alloc: Global,
+        operator: &B,
+        existing_value: Option<Bytes>,
+    ) -> Option<Bytes>
+        ensures key { self.new.key ≡ self.old.key }
+        ensures seq { self.new.seq ≡ self.old.seq }
+        ensures stamp { self.new.stamp ≡ self.old.stamp }
+        ensures created { self.new.created ≡ self.old.created }
+        ensures expires { self.new.expires ≡ self.old.expires }
+        ensures late { self.new.late ≡ self.old.late }
+        ensures batch { self.new.batch.items ≡ self.old.batch.items }
+        ensures folded { self.new.folded.items ≡ self.old.folded.items }
+        ensures unmerged { IfSome result (λ _. self.old.folded.items ≡ []) }
+        ensures ordered { IfSome result (λ _. self.old.late ≡ None) }
+        ensures merged { IfSome result (λ bytes. answer_of (fold_bytes (B.fold operator.now)
+            self.old.key existing_value (reverse self.old.batch.items)) ≡ Ok bytes) }
+    {
+        if !self.folded.is_empty() || self.late.is_some() {
+            return None;
+        }
+        self.batch.reverse();
+        let answer = merge_batch(alloc, operator, &self.key, existing_value, &self.batch);
+        self.batch.reverse();
+        answer.ok()
+    }
+
+    // Makes the row of a group without a base, batch by batch.
+    fn close_in_batches<B: BatchMerger>(
         self,
         alloc: Global,
         operator: &B,
@@ -266,8 +303,27 @@ impl Group {
         Ok(group.into_row(ValueDeletable::Merge(bytes)))
     }
 
-    /// Makes the row of a group over its base. Its content is a value.
-    pub(crate) fn close_over<B: BatchMerger>(
+    /// Makes the row of a group without a base. Its content is an operand. Operands that fill no
+    /// batch go to the operator in one call. If this is refused, batches tell the error.
+    #[inline(always)]
+    pub(crate) fn close<B: BatchMerger>(
+        self,
+        alloc: Global,
+        operator: &B,
+    ) -> Result<RowEntry, SlateDBError>
+        ensures ok { IfOk result
+            (λ row. Closes (B.fold operator.now) self [] (row_of row)) }
+        ensures err { IfErr result (RefusesClose (B.fold operator.now) self []) }
+    {
+        let mut group = self;
+        match group.merged_at_once(alloc, operator, None) {
+            Some(bytes) => Ok(group.into_row(ValueDeletable::Merge(bytes))),
+            None => Ok(group.close_in_batches(alloc, operator)?),
+        }
+    }
+
+    // Makes the row of a group over its base, batch by batch.
+    fn close_over_in_batches<B: BatchMerger>(
         self,
         alloc: Global,
         operator: &B,
@@ -287,5 +343,32 @@ impl Group {
         let existing = into_bytes(base.value);
         let bytes = merge_batch(alloc, operator, &group.key, existing, &group.folded)?;
         Ok(group.into_row(ValueDeletable::Value(bytes)))
+    }
+
+    /// Makes the row of a group over its base. Its content is a value. Operands that fill no batch
+    /// go to the operator in one call. If this is refused, batches tell the error.
+    #[inline(always)]
+    pub(crate) fn close_over<B: BatchMerger>(
+        self,
+        alloc: Global,
+        operator: &B,
+        base: RowEntry,
+    ) -> Result<RowEntry, SlateDBError>
+        requires base { is_operand (row_of base) ≡ false }
+        ensures ok { IfOk result (λ row.
+            Closes (B.fold operator.now) self (row_of base ∷ []) (row_of row)) }
+        ensures err { IfErr result
+            (RefusesClose (B.fold operator.now) self (row_of base ∷ [])) }
+    {
+        let mut group = self;
+        let existing = base.value.as_bytes()?;
+        match group.merged_at_once(alloc, operator, existing) {
+            Some(bytes) => {
+                group.note(&base);
+                group.check()?;
+                Ok(group.into_row(ValueDeletable::Value(bytes)))
+            }
+            None => Ok(group.close_over_in_batches(alloc, operator, base)?),
+        }
     }
 }

@@ -1,14 +1,23 @@
 //! What retention keeps of the rows of one key.
 
-ghost use Rattle.std.specs.Prelude.{◌≡◌, IfOk, IfSome, take};
+ghost use Rattle.std.specs.Prelude.{◌≡◌, ◌&&◌, not, bytes_eq, IfOk, IfSome, take};
 ghost use Rattle.row_model.specs.Rows.{is_expired, is_operand, is_tombstone};
 ghost use Rattle.row_model.specs.KeptRows.{as_tombstone_if_expired, retention_walk, without_old_tombstones, kept_rows};
 ghost use Rattle.fleet_rows.specs.Row.{row_of, rows_of, content_of};
 ghost use Rattle.fleet_fold.specs.Retention.{is_dropped, ends_walk};
 ghost use Rattle.fleet_rows.specs.Settings.{settings_of};
 
-use fleet_rows::{RowEntry, Settings, ValueDeletable};
+use bytes::Bytes;
+use fleet_rows::{RowEntry, Settings, ValueDeletable, key_order};
 use std::alloc::{AllocError, Global};
+
+/// Whether two keys are the same. It compares them by words.
+#[inline]
+pub(crate) fn are_same(key: &Bytes, other: &Bytes) -> bool
+    ensures { result ≡ bytes_eq key.now other.now }
+{
+    key_order(key.as_slice(), other.as_slice()).is_eq()
+}
 
 fn is_expired(row: &RowEntry, tick: i64) -> bool
     ensures { result ≡ is_expired (row_of row.now) tick }
@@ -57,6 +66,19 @@ fn ends_walk(row: &RowEntry, cut: u64) -> bool
     ensures { result ≡ ends_walk cut (row_of row.now) }
 {
     !is_operand(row) && row.seq <= cut
+}
+
+/// Whether retention keeps a row of its key as it is, and no older row. This is so if the row ends
+/// the walk, is not expired, and is no tombstone in the last run.
+#[inline]
+pub(crate) fn is_kept_alone(settings: Settings, row: &RowEntry) -> bool
+    ensures { result ≡ ((ends_walk (settings_of settings).cut (row_of row.now)
+        && not (is_expired (row_of row.now) (settings_of settings).tick))
+        && not ((settings_of settings).last_run && is_tombstone (row_of row.now).content)) }
+{
+    ends_walk(row, settings.cut)
+        && !is_expired(row, settings.tick)
+        && !(settings.last_run && row.value.is_tombstone())
 }
 
 // How many rows the walk keeps, if it takes all of them as they are. None if it comes to a row that

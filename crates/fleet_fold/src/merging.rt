@@ -1,14 +1,18 @@
 //! Iterators that merge operands.
 
-ghost use Rattle.std.specs.Prelude.{◌≡◌, None, OnOk};
+ghost use Rattle.std.specs.Prelude.{◌≡◌, ◌≢◌, true, None, OnOk, IfErr};
 ghost use Rattle.fleet_iter.specs.Iteration.{Inits, Nexts, Seeks, HandsOn, AreRising};
-ghost use Rattle.fleet_fold.specs.Merging.{merging, state_of, IsSound, RisesIfRefused, Sought, HandsOnOrRefuses};
+ghost use Rattle.fleet_fold.specs.Merging.{merging, state_of, ReadsGroups, IsSound, RisesIfRefused, Sought, HandsOnOrRefuses};
+ghost use Rattle.fleet_iter.specs.Merge.{head_passes};
+ghost use Rattle.fleet_fold.specs.Folded.{opens};
+ghost use Rattle.fleet_fold.specs.Groups.{RefusesNext};
+ghost use Rattle.fleet_fold.specs.Retention.{from_ahead};
 
-use crate::MergeOperator;
 use crate::fold::fold_next;
-use crate::group::GroupRule;
+use crate::group::{GroupRule, opens};
 use crate::retention::drop_if_below;
-use fleet_iter::{Failure, RowEntryIterator, TrackedRowEntryIterator};
+use crate::{BatchMerger, MergeOperator};
+use fleet_iter::{Failure, RowEntryIterator, RowSource, TrackedRowEntryIterator};
 use fleet_rows::{RowEntry, SlateDBError};
 use std::alloc::Global;
 
@@ -30,8 +34,10 @@ impl<'o, O: MergeOperator, T: RowEntryIterator> MergeOperatorIterator<'o, O, T> 
     /// group. If `merge_different_expire_ts` is false, only those with its expiry do. The first
     /// other row that may join is the group's base. Operands go to the operator in batches of at
     /// most 100, and the batches' results then go to it over the base's value. A lone operand goes
-    /// to it too. The group's row has the first row's sequence, the greatest `create_ts` and the
-    /// least `expire_ts`.
+    /// to it too. Fewer than 100 operands go to it in one call over the base's value instead, which
+    /// answers the same bytes. If it answers with an error, they go to it as a batch after all. The
+    /// group's row has the first row's sequence, the greatest `create_ts` and the least
+    /// `expire_ts`.
     ///
     /// It refuses a row whose sequence is above that of its group's first row with
     /// `InvalidSequenceOrder`.
@@ -74,6 +80,89 @@ impl<'o, O: MergeOperator, T: RowEntryIterator> MergeOperatorIterator<'o, O, T> 
     }
 }
 
+// Whether there is a row that opens a group.
+fn next_opens(rule: GroupRule, row: &Option<RowEntry>) -> bool
+    ensures { result ≡ head_passes (opens rule) row.now }
+{
+    match row {
+        Some(row) => opens(rule, row),
+        None => false,
+    }
+}
+
+// The next row of an iterator with these parts, of which a row was read ahead.
+#[inline(never)]
+fn next_folded<B: BatchMerger, T: RowSource>(
+    alloc: Global,
+    operator: &B,
+    rule: GroupRule,
+    inner: &mut T,
+    ahead: &mut Option<RowEntry>,
+    failure: &mut Failure,
+) -> Result<Option<RowEntry>, SlateDBError>
+    requires sound { T.sound inner.old }
+    requires alive { failure.old ≡ None }
+    requires some { ahead.old ≢ None }
+    requires reads { ReadsGroups
+        (B.fold operator.now) rule failure.old ahead.old (T.state inner.old) }
+    ensures next { Nexts
+        (merging failure.old (B.fold operator.now) rule ahead.old (T.state inner.old))
+        (merging failure.new (B.fold operator.now) rule ahead.new (T.state inner.new)) result }
+    ensures handed { IfErr result (λ e. failure.old ≡ None → (T.state inner.old).initialised ≡ true
+        → RefusesNext (B.fold operator.now) rule (from_ahead ahead.old (T.state inner.old))
+        (T.state inner.old) (T.state inner.new) e) }
+    ensures reads { ReadsGroups
+        (B.fold operator.now) rule failure.new ahead.new (T.state inner.new) }
+    ensures sound { T.sound inner.new }
+{
+    let Some(row) = ahead.take() else {
+        unreachable!();
+    };
+    match fold_next(alloc, operator, rule, inner, ahead, row) {
+        Ok(row) => Ok(Some(row)),
+        Err(error) => Err(failure.fail(error)),
+    }
+}
+
+// The next row of an iterator with these parts. A row that opens no group is handed on as it is.
+#[inline]
+fn next_given<B: BatchMerger, T: RowSource>(
+    alloc: Global,
+    operator: &B,
+    rule: GroupRule,
+    inner: &mut T,
+    ahead: &mut Option<RowEntry>,
+    failure: &mut Failure,
+) -> Result<Option<RowEntry>, SlateDBError>
+    requires sound { T.sound inner.old }
+    requires reads { ReadsGroups
+        (B.fold operator.now) rule failure.old ahead.old (T.state inner.old) }
+    ensures next { Nexts
+        (merging failure.old (B.fold operator.now) rule ahead.old (T.state inner.old))
+        (merging failure.new (B.fold operator.now) rule ahead.new (T.state inner.new)) result }
+    ensures handed { IfErr result (λ e. failure.old ≡ None → (T.state inner.old).initialised ≡ true
+        → RefusesNext (B.fold operator.now) rule (from_ahead ahead.old (T.state inner.old))
+        (T.state inner.old) (T.state inner.new) e) }
+    ensures reads { ReadsGroups
+        (B.fold operator.now) rule failure.new ahead.new (T.state inner.new) }
+    ensures sound { T.sound inner.new }
+{
+    failure.check()?;
+    if ahead.is_some() {
+        return next_folded(alloc, operator, rule, inner, ahead, failure);
+    }
+    match inner.next_row(alloc) {
+        Ok(row) => {
+            if !next_opens(rule, &row) {
+                return Ok(row);
+            }
+            *ahead = row;
+            next_folded(alloc, operator, rule, inner, ahead, failure)
+        }
+        Err(error) => Err(failure.fail(error)),
+    }
+}
+
 impl<O: MergeOperator, T: RowEntryIterator> RowEntryIterator for MergeOperatorIterator<'_, O, T> {
     ghost state = { state_of O.settings O.merged T.state };
 
@@ -105,27 +194,15 @@ impl<O: MergeOperator, T: RowEntryIterator> RowEntryIterator for MergeOperatorIt
         ensures handed { HandsOnOrRefuses O.settings O.merged T.state self.old self.new result }
         ensures sound { IsSound O.settings O.merged T.sound T.state self.new }
     {
-        self.failure.check()?;
-        let row = match self.ahead.take() {
-            Some(row) => row,
-            None => match self.delegate.next(alloc) {
-                Ok(Some(row)) => row,
-                Ok(None) => return Ok(None),
-                Err(error) => return Err(self.failure.fail(error)),
-            },
-        };
         let rule = self.rule;
-        match fold_next(
+        next_given(
             alloc,
             self.operator,
             rule,
             &mut self.delegate,
             &mut self.ahead,
-            row,
-        ) {
-            Ok(row) => Ok(Some(row)),
-            Err(error) => Err(self.failure.fail(error)),
-        }
+            &mut self.failure,
+        )
     }
 
     fn seek(&mut self, alloc: Global, next_key: &[u8]) -> Result<(), SlateDBError>

@@ -1,14 +1,16 @@
 //! Retention, one key at a time.
 
-ghost use Rattle.std.specs.Prelude.{◌≡◌, ◌++◌, reverse, false, [], None, OnOk, IfOk, IfErr};
+ghost use Rattle.std.specs.Prelude.{◌≡◌, ◌≢◌, ◌++◌, ◌&&◌, not, List, reverse, false, [], None, OnOk, IfOk, IfErr};
 ghost use Rattle.std.specs.Option.{option_to_list};
 ghost use Rattle.fleet_iter.specs.Iteration.{IteratorState, Inits, Nexts, Seeks, HandsOn, AreRising, from_key};
 ghost use Rattle.fleet_rows.specs.Row.{row_of, rows_of};
 ghost use Rattle.fleet_rows.specs.Settings.{settings_of};
-ghost use Rattle.fleet_fold.specs.Retention.{kept_given, joins, IsReadable, ReadsOn, Begins, RefusesBeginning, ReadsKey, RefusesKey, Fills, RefusesFill};
+ghost use Rattle.fleet_fold.specs.Retention.{kept_given, retained_state, Knows, joins, IsReadable, ReadsOn, Begins, RefusesBeginning, ReadsKey, RefusesKey, Fills, RefusesFill, ends_walk};
+ghost use Rattle.fleet_iter.specs.Merge.{head_passes};
+ghost use Rattle.row_model.specs.Rows.{same_key, is_expired, is_tombstone};
 ghost use Rattle.fleet_fold.specs.State.{state_of, IsSound, Sought};
 
-use crate::keeping::kept_rows;
+use crate::keeping::{are_same, is_kept_alone, kept_rows};
 use fleet_iter::{Failure, RowEntryIterator, RowSource, TrackedRowEntryIterator};
 use fleet_rows::{RowEntry, Settings, SlateDBError};
 use std::alloc::Global;
@@ -55,7 +57,7 @@ fn has_key(rows: &[RowEntry], row: &RowEntry) -> bool
 {
     match rows {
         [] => true,
-        [first, ..] => first.key == row.key,
+        [first, ..] => are_same(&first.key, &row.key),
     }
 }
 
@@ -165,6 +167,130 @@ pub(crate) fn drop_if_below(ahead: &mut Option<RowEntry>, key: &[u8])
     }
 }
 
+// Whether a row was read ahead that retention keeps of its key as it is, and no older row.
+#[inline]
+fn stands_alone(settings: Settings, ahead: &Option<RowEntry>) -> bool
+    ensures { result ≡ head_passes (λ row. (ends_walk (settings_of settings).cut row
+        && not (is_expired row (settings_of settings).tick))
+        && not ((settings_of settings).last_run && is_tombstone row.content)) ahead.now }
+{
+    match ahead {
+        Some(row) => is_kept_alone(settings, row),
+        None => false,
+    }
+}
+
+// Whether the key of the row that was read ahead ends before this row, or there is no row.
+#[inline]
+fn ends_key(ahead: &Option<RowEntry>, row: &Option<RowEntry>) -> bool
+    ensures { result
+        ≡ not (head_passes (λ r. head_passes (λ first. same_key first r) ahead.now) row.now) }
+{
+    match row {
+        Some(row) => match ahead {
+            Some(first) => !are_same(&first.key, &row.key),
+            None => true,
+        },
+        None => true,
+    }
+}
+
+// Takes the row that was read ahead, and drops the other rows of its key. It reads the first row
+// after them ahead.
+#[inline]
+fn pass_key<T: RowSource>(
+    alloc: Global,
+    inner: &mut T,
+    ahead: &mut Option<RowEntry>,
+) -> Result<Option<RowEntry>, SlateDBError>
+    requires sound { T.sound inner.old }
+    requires readable { IsReadable (T.state inner.old) }
+    requires some { ahead.old ≢ None }
+    ensures first { IfOk result (λ row. row ≡ ahead.old) }
+    ensures ok { IfOk result (λ _. (others : List RowEntry) × ReadsKey ahead.old
+        (T.state inner.old) (option_to_list ahead.old ++ others) ahead.new (T.state inner.new)) }
+    ensures err { IfErr result (RefusesKey ahead.old (T.state inner.old) (T.state inner.new)) }
+    ensures sound { T.sound inner.new }
+{
+    'rows: loop {
+        let row = inner.next_row(alloc)?;
+        if ends_key(ahead, &row) {
+            return Ok(mem::replace(ahead, row));
+        }
+        drop(row);
+    }
+}
+
+// The next row of an iterator with these parts. It is kept in the buffer, or keys are read until
+// rows are kept.
+#[inline(never)]
+fn next_filled<T: RowSource>(
+    alloc: Global,
+    settings: Settings,
+    inner: &mut T,
+    buffer: &mut Vec<RowEntry>,
+    ahead: &mut Option<RowEntry>,
+    failure: &mut Failure,
+) -> Result<Option<RowEntry>, SlateDBError>
+    requires sound { T.sound inner.old }
+    requires knows { Knows
+        failure.old (reverse buffer.old.items) ahead.old (T.state inner.old) }
+    ensures next { Nexts
+        (retained_state failure.old (settings_of settings)
+        (reverse buffer.old.items) ahead.old (T.state inner.old))
+        (retained_state failure.new (settings_of settings)
+        (reverse buffer.new.items) ahead.new (T.state inner.new)) result }
+    ensures handed { HandsOn (retained_state failure.old (settings_of settings)
+        (reverse buffer.old.items) ahead.old (T.state inner.old)) (T.state inner.new) result }
+    ensures knows { Knows
+        failure.new (reverse buffer.new.items) ahead.new (T.state inner.new) }
+    ensures sound { T.sound inner.new }
+{
+    failure.check()?;
+    if let Err(error) = begin(alloc, inner, buffer, ahead) {
+        return Err(failure.fail(error));
+    }
+    match fill(alloc, settings, inner, buffer, ahead) {
+        Ok(()) => Ok(buffer.pop()),
+        Err(error) => Err(failure.fail(error)),
+    }
+}
+
+// The next row of an iterator with these parts. If a row was read ahead that alone is kept of its
+// key, it is handed on as it is.
+#[inline]
+fn next_kept<T: RowSource>(
+    alloc: Global,
+    settings: Settings,
+    inner: &mut T,
+    buffer: &mut Vec<RowEntry>,
+    ahead: &mut Option<RowEntry>,
+    failure: &mut Failure,
+) -> Result<Option<RowEntry>, SlateDBError>
+    requires sound { T.sound inner.old }
+    requires knows { Knows
+        failure.old (reverse buffer.old.items) ahead.old (T.state inner.old) }
+    ensures next { Nexts
+        (retained_state failure.old (settings_of settings)
+        (reverse buffer.old.items) ahead.old (T.state inner.old))
+        (retained_state failure.new (settings_of settings)
+        (reverse buffer.new.items) ahead.new (T.state inner.new)) result }
+    ensures handed { HandsOn (retained_state failure.old (settings_of settings)
+        (reverse buffer.old.items) ahead.old (T.state inner.old)) (T.state inner.new) result }
+    ensures knows { Knows
+        failure.new (reverse buffer.new.items) ahead.new (T.state inner.new) }
+    ensures sound { T.sound inner.new }
+{
+    failure.check()?;
+    if !buffer.is_empty() || !stands_alone(settings, ahead) {
+        return next_filled(alloc, settings, inner, buffer, ahead, failure);
+    }
+    match pass_key(alloc, inner, ahead) {
+        Ok(row) => Ok(row),
+        Err(error) => Err(failure.fail(error)),
+    }
+}
+
 impl<T: RowEntryIterator> RowEntryIterator for RetentionIterator<T> {
     ghost state = { state_of T.state };
 
@@ -193,21 +319,15 @@ impl<T: RowEntryIterator> RowEntryIterator for RetentionIterator<T> {
         ensures handed { HandsOn (state_of T.state self.old) (T.state self.new.inner) result }
         ensures sound { IsSound T.sound T.state self.new }
     {
-        self.failure.check()?;
-        if let Err(error) = begin(alloc, &mut self.inner, &self.buffer, &mut self.ahead) {
-            return Err(self.failure.fail(error));
-        }
         let settings = self.settings;
-        match fill(
+        next_kept(
             alloc,
             settings,
             &mut self.inner,
             &mut self.buffer,
             &mut self.ahead,
-        ) {
-            Ok(()) => Ok(self.buffer.pop()),
-            Err(error) => Err(self.failure.fail(error)),
-        }
+            &mut self.failure,
+        )
     }
 
     fn seek(&mut self, alloc: Global, next_key: &[u8]) -> Result<(), SlateDBError>

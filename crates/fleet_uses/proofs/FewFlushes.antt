@@ -30,6 +30,7 @@ no_runs : (views : List View) → runs_of (map (flush_node (unmerged [])) views 
 no_runs [] = refl
 no_runs (view ∷ views) = no_runs views
 
+-- With fewer flushes than the trigger, the levelled scheduler picks nothing.
 nothing_picked : (o : LevelOptions) (flushes : List View) → length flushes < o.l0_trigger → level_picks o 4 (view_of unmerged (state_with flushes)) ≡ []
 nothing_picked o flushes few =
     let tree : Tree = map (flush_node (unmerged [])) flushes ++ [] in
