@@ -90,3 +90,6 @@ pub row_parts : (first : List ℕ) (r : Row) (others : List ℕ) → row_bytes f
 row_parts first r others =
     append_assoc (key_bytes (shared_len first r.key) r.key) (fields_bytes r) others
     ∙ ap (λ xs. key_bytes (shared_len first r.key) r.key ++ xs) (four_parts (to_be_bytes w64 r.seq ++ row_flags r ∷ []) (stamp_bytes r.created) (stamp_bytes r.expires) (content_bytes r.content) others)
+
+pub fields_parts : (r : Row) (others : List ℕ) → fields_bytes r ++ others ≡ after_key r others
+fields_parts r others = four_parts (to_be_bytes w64 r.seq ++ row_flags r ∷ []) (stamp_bytes r.created) (stamp_bytes r.expires) (content_bytes r.content) others

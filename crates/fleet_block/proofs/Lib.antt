@@ -14,3 +14,4 @@ pub mod Tells
 pub mod Stand
 pub mod Comparisons
 pub mod Places
+pub mod RowsFound

@@ -10,9 +10,12 @@ ghost use Rattle.fleet_block.specs.Finds.{Finds};
 ghost use Rattle.fleet_block.specs.Comparisons.{key_of};
 
 use crate::number::{u16_at, u32_at, u64_at};
-use bytes::Bytes;
+use bytes::{Bytes, BytesMut};
 use fleet_rows::{SlateDBError, ValueDeletable};
 use std::alloc::Global;
+
+// The bytes of memory that is taken at once for keys.
+const KEYS_BYTES: usize = 1024;
 
 /// Where a key stands: it has so many bytes of its block's first key, and then `len` bytes from
 /// `start` on.
@@ -25,6 +28,7 @@ pub(crate) struct KeyParts {
 
 /// Where the key at this place stands, which may share bytes with the block's first key, and the
 /// place after it.
+#[inline(always)]
 pub(crate) fn key_parts_at(bytes: &Bytes, place: usize, first: &[u8]) -> Option<(KeyParts, usize)>
     requires { place ≤ length bytes.now }
     ensures found { Finds (key_of first.now bytes.now)
@@ -51,6 +55,7 @@ pub(crate) fn key_parts_at(bytes: &Bytes, place: usize, first: &[u8]) -> Option<
 
 /// The key at this place, which may share bytes with the block's first key, and the place after
 /// it.
+#[inline(always)]
 pub(crate) fn key_at(
     alloc: Global,
     bytes: &Bytes,
@@ -72,6 +77,7 @@ pub(crate) fn key_at(
 
 // The front and the bytes from `place` to `end`. If the front is empty, they share the table's
 // memory.
+#[inline(always)]
 fn joined(
     alloc: Global,
     front: &[u8],
@@ -93,7 +99,60 @@ fn joined(
     Ok(Bytes::from_vec(key)?)
 }
 
+/// The key that `key_at` gives. If it shares bytes with the block's first key, it is put into memory
+/// that it shares with other keys.
+#[inline(always)]
+pub(crate) fn packed_key_at(
+    alloc: Global,
+    keys: &mut BytesMut,
+    bytes: &Bytes,
+    place: usize,
+    first: &[u8],
+) -> Result<Option<(Bytes, usize)>, SlateDBError>
+    requires { place ≤ length bytes.now }
+    ensures found { IfOk result (Finds (λ k. k) (λ k. key_bytes (shared_len first.now k) k)
+        (λ k. length k ≤ 65535) bytes.now place) }
+    ensures within { IfOk result (λ found. IfSome found (λ f. f.1 ≤ length bytes.now)) }
+    ensures memory { IsOkUnless result SlateDBError.Memory }
+{
+    let Some((parts, end)) = key_parts_at(bytes, place, first) else {
+        return Ok(None);
+    };
+    let key = packed(alloc, keys, &first[..parts.shared], bytes, parts.start, end)?;
+    Ok(Some((key, end)))
+}
+
+// The front and the bytes from `place` to `end`. If the front is empty, they share the table's
+// memory, and else that of other keys.
+#[inline(always)]
+fn packed(
+    alloc: Global,
+    keys: &mut BytesMut,
+    front: &[u8],
+    bytes: &Bytes,
+    place: usize,
+    end: usize,
+) -> Result<Bytes, SlateDBError>
+    requires { (place ≤ end) × (end ≤ length bytes.now) }
+    ensures bytes { IfOk result (λ key. key ≡ front.now ++ slice_range bytes.now place end) }
+    ensures memory { IsOkUnless result SlateDBError.Memory }
+{
+    if front.is_empty() {
+        return Ok(bytes.slice(place..end)?);
+    }
+    let rest = &bytes.as_slice()[place..end];
+    let len = front.len() + rest.len();
+    keys.clear();
+    if keys.capacity() < len {
+        *keys = BytesMut::with_capacity(alloc, KEYS_BYTES.max(len))?;
+    }
+    keys.extend_from_slice(front)?;
+    keys.extend_from_slice(rest)?;
+    Ok(keys.freeze_to(keys.len())?)
+}
+
 /// The stamp at this place, if it is there, and the place after it.
+#[inline(always)]
 pub(crate) fn stamp_at(bytes: &Bytes, place: usize, is_there: bool) -> Option<(Option<i64>, usize)>
     requires { place ≤ length bytes.now }
     ensures found { Finds (λ s. s) stamp_bytes (λ s. IsStampOrNone s × (is_some s ≡ is_there))
@@ -108,6 +167,7 @@ pub(crate) fn stamp_at(bytes: &Bytes, place: usize, is_there: bool) -> Option<(O
 }
 
 /// The content at this place, of the kind that the flags tell, and the place after it.
+#[inline(always)]
 pub(crate) fn content_at(
     bytes: &Bytes,
     place: usize,
@@ -134,6 +194,7 @@ pub(crate) fn content_at(
 }
 
 // The bytes of a value or of an operand. They share the table's memory.
+#[inline(always)]
 fn value_at(bytes: &Bytes, place: usize) -> Result<Option<(Bytes, usize)>, SlateDBError>
     requires { place ≤ length bytes.now }
     ensures found { IfOk result (Finds (λ v. v) (λ v. to_be_bytes w32 (length v) ++ v)

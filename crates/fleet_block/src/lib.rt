@@ -24,5 +24,5 @@ pub use laws::{
 };
 pub use place::BlockPlace;
 pub use read::rows_from_bytes;
-pub use row::row_at;
+pub use row::{packed_row_at, row_at};
 pub use write::{bytes_from_rows, written_rows};

@@ -10,6 +10,7 @@ ghost use Rattle.fleet_table.specs.Order.{is_before_range, is_not_after_range};
 
 use crate::cursor::{Cursor, Ties};
 use crate::table_bytes::TableBytes;
+use bytes::BytesMut;
 use fleet_range::{ByteRangeBounds, BytesRange};
 use fleet_rows::{RowEntry, SlateDBError};
 use std::alloc::Global;
@@ -24,6 +25,8 @@ pub(crate) struct Span<'a> {
     cursor: Cursor,
     // The number of rows of the table up to the last row.
     end: usize,
+    // Memory for keys of the next rows.
+    keys: BytesMut,
 }
 
 impl<'a> Model for Span<'a> {
@@ -44,10 +47,12 @@ impl<'a> Span<'a> {
         ensures { result ≡ rows_in (range_of range.now) table.now }
     {
         table.know_table();
+        let cursor = start_of(table, range);
         Span {
             table,
-            cursor: start_of(table, range),
-            end: end_of(table, range),
+            cursor,
+            end: end_of(table, cursor, range),
+            keys: BytesMut::new(table.alloc),
         }
     }
 
@@ -60,6 +65,7 @@ impl<'a> Span<'a> {
             table,
             cursor: table.block_start(0),
             end: table.count(),
+            keys: BytesMut::new(table.alloc),
         }
     }
 }
@@ -72,6 +78,7 @@ impl Span<'_> {
     }
 
     /// Takes the first row.
+    #[inline]
     pub(crate) fn next(&mut self, alloc: Global) -> Result<Option<RowEntry>, SlateDBError>
         ensures row { IfOk result (Takes self.old self.new) }
         ensures err { OnErr result (self.new ≡ self.old) }
@@ -80,7 +87,7 @@ impl Span<'_> {
         if self.end <= self.cursor.row {
             return Ok(None);
         }
-        let (row, cursor) = self.table.row(alloc, self.cursor)?;
+        let (row, cursor) = self.table.packed_row(alloc, &mut self.keys, self.cursor)?;
         self.cursor = cursor;
         Ok(Some(row))
     }
@@ -110,14 +117,15 @@ fn start_of(table: &TableBytes, range: &BytesRange) -> Cursor
     }
 }
 
-// The number of rows that are not after the range.
-fn end_of(table: &TableBytes, range: &BytesRange) -> usize
+// The number of rows that are not after the range, which are looked for from the cursor on.
+fn end_of(table: &TableBytes, from: Cursor, range: &BytesRange) -> usize
+    requires { IsCursor table.now from }
     ensures value { result ≡ prefix_len (is_not_after_range (range_of range.now)) table.now }
     ensures within { result ≤ length table.now }
 {
     match ByteRangeBounds::end_bound(range) {
-        Bound::Included(end) => table.find(end, Ties::Before).row,
-        Bound::Excluded(end) => table.find(end, Ties::After).row,
+        Bound::Included(end) => table.find_from(from, end, Ties::Before).row,
+        Bound::Excluded(end) => table.find_from(from, end, Ties::After).row,
         Bound::Unbounded => table.count(),
     }
 }

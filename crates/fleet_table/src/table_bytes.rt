@@ -17,8 +17,10 @@ ghost use Rattle.fleet_table.specs.Table.{AreEndKeys, IsTableRows};
 use crate::cursor::{Cursor, Ties, is_before_spot};
 use crate::cutting::cut_blocks;
 use crate::order::last_of;
-use bytes::Bytes;
-use fleet_block::{BlockPlace, bytes_are_decoded, compared_at, row_at, written_rows};
+use bytes::{Bytes, BytesMut};
+use fleet_block::{
+    BlockPlace, bytes_are_decoded, compared_at, packed_row_at, row_at, written_rows,
+};
 use fleet_rows::{RowEntry, SlateDBError, Ulid};
 use fleet_tree::{BlockList, SsTableHandle};
 use std::alloc::Global;
@@ -268,6 +270,30 @@ impl TableBytes {
         Ok((row, self.next(cursor, place)))
     }
 
+    /// What `row` gives. The key may lie in memory that it shares with other keys.
+    #[inline]
+    pub(crate) fn packed_row(
+        &self,
+        alloc: Global,
+        keys: &mut BytesMut,
+        cursor: Cursor,
+    ) -> Result<(RowEntry, Cursor), SlateDBError>
+        requires row { cursor.row < length self.now }
+        requires stands { IsCursor self.now cursor }
+        ensures value { IfOk result
+            (λ found. slice_get self.now cursor.row ≡ Some (row_of found.0)) }
+        ensures row { IfOk result (λ found. found.1.row ≡ cursor.row + 1) }
+        ensures stands { IfOk result (λ found. IsCursor self.now found.1) }
+        ensures memory { IsOkUnless result SlateDBError.Memory }
+    {
+        let first = self.key_before(cursor);
+        let Some((row, place)) = packed_row_at(alloc, keys, &self.bytes, cursor.place, first)?
+        else {
+            unreachable!()
+        };
+        Ok((row, self.next(cursor, place)))
+    }
+
     // The last block whose first row is before a spot, or the first block. It is found by halves.
     fn find_block(&self, key: &[u8], ties: Ties) -> usize
         ensures within { result < length (blocks_of_rows 0 self.now) }
@@ -309,6 +335,38 @@ impl TableBytes {
             cursor = next;
         }
         cursor
+    }
+
+    // The row after the one at `from`, if that one is before a spot and comes after `start`. Else
+    // `start`.
+    fn onward(&self, start: Cursor, from: Cursor, key: &[u8], ties: Ties) -> Cursor
+        requires stands { IsCursor self.now start }
+        requires start { start.row ≤ prefix_len (is_before_spot key.now ties) self.now }
+        requires from { IsCursor self.now from }
+        ensures row { result.row ≤ prefix_len (is_before_spot key.now ties) self.now }
+        ensures stands { IsCursor self.now result }
+    {
+        if start.row < from.row && from.row < self.count() {
+            let (is_before, next) = self.look(from, key, ties);
+            if is_before {
+                return next;
+            }
+        }
+        start
+    }
+
+    /// The first row that is not before a spot. If the row at `from` is before it, the rows of its
+    /// block up to that one are not looked at.
+    pub(crate) fn find_from(&self, from: Cursor, key: &[u8], ties: Ties) -> Cursor
+        requires { IsCursor self.now from }
+        ensures row { result.row ≡ prefix_len (is_before_spot key.now ties) self.now }
+        ensures stands { IsCursor self.now result }
+    {
+        let _few = self.block_count();
+        let block = self.find_block(key, ties);
+        let end = self.rows_before(block + 1);
+        let start = self.onward(self.block_start(block), from, key, ties);
+        self.scan(start, end, key, ties)
     }
 
     /// The first row that is not before a spot.

@@ -1,51 +1,11 @@
-use Rattle.std.proofs.Common.{◌∙◌, ap}
-use Rattle.row_model.specs.Written.TableBytes.{row_flags}
-use Rattle.fleet_rows.specs.Row.{content_of, row_of}
-use Rattle.fleet_block.proofs.Fields.{after_created, after_expires, after_flags, after_key, after_seq, created_there, expires_there, kind_told, row_parts}
-use Rattle.fleet_block.proofs.Found.{found_none, found_some}
+use Rattle.std.proofs.Common.{◌∙◌}
+use Rattle.fleet_block.proofs.Fields.{after_key, row_parts}
+use Rattle.fleet_block.proofs.Found.{found_some}
+use Rattle.fleet_block.proofs.RowsFound.{row_found}
 use Rattle.fleet_block.proofs.row.row_at.Goals as goal
 
-pub returns-in_default-u64_at-clause-found : goal.returns-in_default-u64_at-clause-found
-returns-in_default-u64_at-clause-found c r others fits e =
-    let key = found_some (λ k. k) r.key (after_key r others) c.args.bytes.now c.in_ok-key.field-0 c.in-Some.key c.in-Some.place c.in-Some.is (c.in_ok-key.ensures.found r.key (after_key r others) fits.in_bounds.key (e ∙ row_parts c.args.first.now r others)) in
-    c.in_default-u64_at.ensures.found r.seq (after_seq r others) fits.seq key.1
-
-pub returns-in_default-byte_at-clause-found : goal.returns-in_default-byte_at-clause-found
-returns-in_default-byte_at-clause-found c r others fits e =
-    let key = found_some (λ k. k) r.key (after_key r others) c.args.bytes.now c.in_ok-key.field-0 c.in-Some.key c.in-Some.place c.in-Some.is (c.in_ok-key.ensures.found r.key (after_key r others) fits.in_bounds.key (e ∙ row_parts c.args.first.now r others)) in
-    let seq = c.in-Some-u64_at.ensures.found r.seq (after_seq r others) fits.seq key.1 in
-    c.in_default-byte_at.ensures.found (row_flags r) (after_flags r others) tt seq.1
-
-pub returns-in_default-stamp_at-clause-found : goal.returns-in_default-stamp_at-clause-found
-returns-in_default-stamp_at-clause-found c r others fits e =
-    let key = found_some (λ k. k) r.key (after_key r others) c.args.bytes.now c.in_ok-key.field-0 c.in-Some.key c.in-Some.place c.in-Some.is (c.in_ok-key.ensures.found r.key (after_key r others) fits.in_bounds.key (e ∙ row_parts c.args.first.now r others)) in
-    let seq = c.in-Some-u64_at.ensures.found r.seq (after_seq r others) fits.seq key.1 in
-    let flags = c.in-Some-byte_at.ensures.found (row_flags r) (after_flags r others) tt seq.1 in
-    c.in_default-stamp_at.ensures.found r.created (after_created r others) (fits.created, created_there r c.in-Some-byte_at.flags flags.0) flags.1
-
-pub returns-in_default-stamp_at-2-clause-found : goal.returns-in_default-stamp_at-2-clause-found
-returns-in_default-stamp_at-2-clause-found c r others fits e =
-    let key = found_some (λ k. k) r.key (after_key r others) c.args.bytes.now c.in_ok-key.field-0 c.in-Some.key c.in-Some.place c.in-Some.is (c.in_ok-key.ensures.found r.key (after_key r others) fits.in_bounds.key (e ∙ row_parts c.args.first.now r others)) in
-    let seq = c.in-Some-u64_at.ensures.found r.seq (after_seq r others) fits.seq key.1 in
-    let flags = c.in-Some-byte_at.ensures.found (row_flags r) (after_flags r others) tt seq.1 in
-    let created = c.in-Some-stamp_at.ensures.found r.created (after_created r others) (fits.created, created_there r c.in-Some-byte_at.flags flags.0) flags.1 in
-    c.in_default-stamp_at-2.ensures.found r.expires (after_expires r others) (fits.expires, expires_there r c.in-Some-byte_at.flags flags.0) created.1
-
-pub returns-in_default-2-clause-found : goal.returns-in_default-2-clause-found
-returns-in_default-2-clause-found c r others fits e =
-    let key = found_some (λ k. k) r.key (after_key r others) c.args.bytes.now c.in_ok-key.field-0 c.in-Some.key c.in-Some.place c.in-Some.is (c.in_ok-key.ensures.found r.key (after_key r others) fits.in_bounds.key (e ∙ row_parts c.args.first.now r others)) in
-    let seq = c.in-Some-u64_at.ensures.found r.seq (after_seq r others) fits.seq key.1 in
-    let flags = c.in-Some-byte_at.ensures.found (row_flags r) (after_flags r others) tt seq.1 in
-    let created = c.in-Some-stamp_at.ensures.found r.created (after_created r others) (fits.created, created_there r c.in-Some-byte_at.flags flags.0) flags.1 in
-    let expires = c.in-Some-stamp_at-2.ensures.found r.expires (after_expires r others) (fits.expires, expires_there r c.in-Some-byte_at.flags flags.0) created.1 in
-    found_none content_of r.content others c.args.bytes.now c.in_ok-value.field-0 c.in_default-2.is (c.in_ok-value.ensures.found r.content others (fits.in_bounds.content, kind_told r c.in-Some-byte_at.flags flags.0) expires.1)
-
 pub returns-clause-found : goal.returns-clause-found
-returns-clause-found c r others fits e =
-    let key = found_some (λ k. k) r.key (after_key r others) c.args.bytes.now c.in_ok-key.field-0 c.in-Some.key c.in-Some.place c.in-Some.is (c.in_ok-key.ensures.found r.key (after_key r others) fits.in_bounds.key (e ∙ row_parts c.args.first.now r others)) in
-    let seq = c.in-Some-u64_at.ensures.found r.seq (after_seq r others) fits.seq key.1 in
-    let flags = c.in-Some-byte_at.ensures.found (row_flags r) (after_flags r others) tt seq.1 in
-    let created = c.in-Some-stamp_at.ensures.found r.created (after_created r others) (fits.created, created_there r c.in-Some-byte_at.flags flags.0) flags.1 in
-    let expires = c.in-Some-stamp_at-2.ensures.found r.expires (after_expires r others) (fits.expires, expires_there r c.in-Some-byte_at.flags flags.0) created.1 in
-    let content = found_some content_of r.content others c.args.bytes.now c.in_ok-value.field-0 c.in-Some-2.value c.in-Some-2.place c.in-Some-2.is (c.in_ok-value.ensures.found r.content others (fits.in_bounds.content, kind_told r c.in-Some-byte_at.flags flags.0) expires.1) in
-    (ap row_of c.new-row.ensures ∙ (λ i. record { key = key.0 i; content = content.0 i; seq = seq.0 i; created = created.0 i; expires = expires.0 i }), content.1)
+returns-clause-found c =
+    row_found c.args.first.now c.args.bytes.now c.in-Some.key c.args.place c.in-Some.place c.row_with.result
+    (λ r others fits e. found_some (λ k. k) r.key (after_key r others) c.args.bytes.now c.in_ok-key.field-0 c.in-Some.key c.in-Some.place c.in-Some.is (c.in_ok-key.ensures.found r.key (after_key r others) fits.in_bounds.key (e ∙ row_parts c.args.first.now r others)))
+    c.row_with.ensures.found
