@@ -1,10 +1,11 @@
 -- The picks in a program's trees are the model's proposals.
 use Rattle.std.proofs.Common.{◌≡◌, refl, sym, ◌∙◌, ap, ℕ, List, [], ◌∷◌, map}
 use Rattle.fleet_model.specs.Jobs.{Jobs, JobSpec}
+use Rattle.fleet_model.specs.Work.Scheduler.{View}
 use Rattle.sched_model.specs.FreshRuns.{fresh_run_id}
 use Rattle.sched_model.specs.Picks.{Planned, passes}
 use Rattle.sched_model.specs.Series.{TieredOptions}
-use Rattle.sched_model.specs.Sizes.{SizedTree}
+use Rattle.sched_model.specs.Sizes.{SizedTree, sized_trees}
 use Rattle.sched_model.specs.SizeTiered.{by_flushes, free_slots, tiered_proposals, unplanned_tree}
 use Rattle.fleet_tree.specs.Trees.{RunFlushes}
 use Rattle.fleet_tree.specs.declared.tree.LsmTreeState.{LsmTreeState}
@@ -29,3 +30,9 @@ proposed_is o most flushes state slots fresh trees made free id planned picks =
     ∙ ap (λ (f : ℕ). passes o (free_slots most (shown_jobs state)) (free_slots most (shown_jobs state)) trees (record { fresh = f; picks = [] })) id
     ∙ ap (λ (l : List Planned). passes o (free_slots most (shown_jobs state)) (free_slots most (shown_jobs state)) l (record { fresh = fresh_run_id (view_of flushes state); picks = [] })) seen
     ∙ sym (ap (λ (l : List SizedTree). passes o (free_slots most (shown_jobs state)) (free_slots most (shown_jobs state)) (by_flushes (map (unplanned_tree (shown_jobs state)) l)) (record { fresh = fresh_run_id (view_of flushes state); picks = [] })) (sized_is flushes state))
+
+-- Without a free slot nothing is proposed.
+pub none_proposed : (o : TieredOptions) (most : ℕ) (view : View) → 0 ≡ free_slots most view.jobs → [] ≡ tiered_proposals o most view
+unfolding tiered_proposals
+none_proposed o most view none =
+    ap (λ (n : ℕ). passes o n n (by_flushes (map (unplanned_tree view.jobs) (sized_trees view.handles view.manifest.trees))) (record { fresh = fresh_run_id view; picks = [] })) none

@@ -84,6 +84,9 @@ impl CompactionScheduler for SizeTieredCompactionScheduler {
         state: &CompactorStateView,
     ) -> Result<Vec<CompactionSpec>, SlateDBError> {
         let slots = free_slots(self.max_concurrent_compactions, state);
+        if slots == 0 {
+            return Ok(Vec::new(alloc));
+        }
         let trees = trees_to_plan(alloc, state)?;
         let picks = picks_in(alloc, &self.options, slots, fresh_run_id(state), trees)?;
         Ok(picks)
