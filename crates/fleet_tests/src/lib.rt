@@ -5,6 +5,8 @@
 #![tactic(auto)]
 
 #[cfg(test)]
+mod alike;
+#[cfg(test)]
 mod at_once;
 #[cfg(test)]
 mod boxes;
@@ -32,6 +34,8 @@ mod ranges;
 mod rivals;
 #[cfg(test)]
 mod scripts;
+#[cfg(test)]
+mod seeks;
 #[cfg(test)]
 mod spelt;
 #[cfg(test)]
