@@ -109,6 +109,7 @@ run_between trees spec id a rise order may = between_of id a.newer a.t a.ts a.ol
     (subst (λ ns. IsTrue (is_lowest_or_above id (run_ids ns) (run_ids (names (a.newer ++ ((a.t ∷ a.ts) ++ a.older)))))) (sym a.named)
     (subst (λ tree. IsTrue (is_lowest_or_above id (run_ids spec.sources) (run_ids (names tree)))) (tree_before spec.segment trees a.s rise a.there a.same ∙ a.whole) may.lowest))
 
+-- What a step makes of the trees where its sources are a stretch of one tree: that tree has the run, others stay.
 abbrev pub run_at : (trees : Trees) (spec : JobSpec) (id : ℕ) (pieces : List ℕ) (change : Tree → Tree) (a : StretchAt trees spec) → Rising trees → Named a.s.tree → InOrder a.s.tree → RunMay trees spec id
     → change a.s.tree ≡ with_run_for spec.sources id pieces a.s.tree → RunAt trees spec id pieces change
 run_at trees spec id pieces change a rise own order may makes = record {

@@ -143,6 +143,7 @@ draws_ordered : {A B : Type 0} (moment : ℕ) (xs : List B) (next : List (ℕ ×
 draws_ordered moment [] next h = h []
 draws_ordered moment (x ∷ xs) next h = inl (λ store. refl, λ met. draws_ordered moment xs (λ drawn. next (_ ∷ drawn)) (λ drawn. h (_ ∷ drawn)))
 
+-- However many tries are left, they put the manifest before the records.
 tries_ordered : (ask : PollAsk) (left seen : ℕ) → Ordered (counted_tries (poll_try ask) left seen)
 tries_ordered ask zero seen = tt
 tries_ordered ask (suc left) seen =

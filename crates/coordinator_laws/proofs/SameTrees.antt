@@ -96,6 +96,7 @@ same_names (x ∷ xs) (y ∷ ys) e =
     let rest = same_names xs ys two.1 in
     λ i. first i ∷ rest i
 
+-- Nodes with the same names and tables, and with the same flushes and watermarks, are the same.
 nodes_same : (xs ys : Tree) → pointwise node_eq xs ys ≡ true → tags ys ≡ tags xs → ys ≡ xs
 nodes_same [] [] e t = refl
 nodes_same [] (y ∷ ys) e t = absurd (cc e)

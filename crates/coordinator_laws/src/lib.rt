@@ -50,8 +50,8 @@ pub fn got_objects_merge()
     ensures { GotObjectsMerge }
 {}
 
-/// Jobs that merge so have the stored job of each id or, if none is stored, the local one. So what a
-/// coordinator has after a merge are told apart by id.
+/// Jobs that merge so have the stored job of each id or, if none is stored, the local one. So the
+/// jobs that a coordinator has after a merge have different ids.
 pub fn merged_jobs_are_stored()
     ensures { MergedJobsAreStored }
 {}

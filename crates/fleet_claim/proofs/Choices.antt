@@ -11,6 +11,7 @@ use Rattle.fleet_jobs.specs.declared.release.Release.{Release}
 use Rattle.fleet_claim.specs.Choices.{AreClaimed, AreStopped, is_stopped, is_taken, stopped_ids, taken_records}
 use Rattle.fleet_claim.proofs.Lists.{filter_changed}
 
+-- The records that are taken so are those of the jobs that the model's claim takes.
 pub are_claimed : (slots : ℕ) (running : List ℕ) (release : Release) (jobs these : List JobParts) → these ≡ taken_records slots running release jobs → AreClaimed slots running release jobs these
 are_claimed slots running release jobs these is = record {
   records = is;

@@ -111,6 +111,7 @@ module _ (moment retention : ℕ) (got : VersionedManifest) (f : made.MadeFlush)
       met_is f.segment core_trees got_rise ∙ sym (last_found f.segment core_trees) ∙ sym (last_bare f.segment (trees_of bare_flushes got.manifest.core))
       ∙ ap (λ trees. last_seq_of (segment_at f.segment trees)) trees_same ∙ last_bare f.segment stored.trees
 
+  -- What the code gives to the flush of the manifest that it got.
   abbrev arguments : FlushArguments
   arguments = record {
     segment = f.segment;

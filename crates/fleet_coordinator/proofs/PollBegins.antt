@@ -86,13 +86,13 @@ module _ (tables : Tables) (sound : AllByRecursion (λ table. IsTable table.1) t
 
 -- Trees whose tables are as `TreesTold` says name put tables, and so do jobs.
 pub trees_named : (tables : Tables) (core : ManifestCore) → TreesTold tables core → AllByRecursion (NamesTable tables) (views_in core)
-trees_named tables core told =
+trees_named tables core matched =
     all_flat (NamesTable tables) (λ (t : List ℕ × LsmTreeState). views_of t.1) (trees_with_prefix core)
-    (all_to _ _ (trees_with_prefix core) (λ t there views. all_to _ _ (views_of t.1) (λ view one is. record { identity = is.identity; described = record { put = is.handle.put; describes = is.handle.describes } }) views) told)
+    (all_to _ _ (trees_with_prefix core) (λ t there views. all_to _ _ (views_of t.1) (λ view one is. record { identity = is.identity; described = record { put = is.handle.put; describes = is.handle.describes } }) views) matched)
 
 pub jobs_described : (tables : Tables) (jobs : List JobParts) → JobsTold tables jobs → AllByRecursion (IsDescribed tables) (flat_map job_handles jobs)
-jobs_described tables jobs told =
-    all_flat (IsDescribed tables) job_handles jobs (all_to _ _ jobs (λ job there handles. all_to _ _ (job_handles job) (λ handle one is. record { put = is.put; describes = is.describes }) handles) told)
+jobs_described tables jobs matched =
+    all_flat (IsDescribed tables) job_handles jobs (all_to _ _ jobs (λ job there handles. all_to _ _ (job_handles job) (λ handle one is. record { put = is.put; describes = is.describes }) handles) matched)
 
 -- ---- prefixes
 

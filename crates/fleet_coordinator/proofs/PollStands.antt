@@ -206,6 +206,7 @@ module _ {merge : Operator} {party : Party} {h : World} {input : PollInput} {got
     jobs = reached_lost got p job rule s.jobs there compacted;
   }
 
+  -- The sources of each of these jobs stand when its turn comes, one job after the other.
   stand_one_by_one : (jobs : Jobs) (p : PollState) → Reached party h input got drawn own start horizon p → p.opened ≡ [] → Pairs (λ a b. a.id < b.id) jobs → AreLeft p jobs → CommitsStand input jobs p
   stand_one_by_one [] p s none rise left = tt
   stand_one_by_one (job ∷ jobs) p s none rise left = (

@@ -109,6 +109,7 @@ module _ (own : ℕ → JobSpec) where
       by None = stepped_names jobs to_completed (job.id ∷ []) (λ j. refl) (λ j. refl) p (commit_by input job None p) refl (Join job.id) refl n.left_are.0 (rest_of job jobs p n)
       by (Some rule) = changed_names jobs to_failed (job.id ∷ []) (λ j. refl) (λ j. refl) p (commit_by input job (Some rule) p) refl refl (rest_of job jobs p n)
 
+  -- After step 4 for these jobs, each step is still for a job that the poll has, and each job has its spec.
   opens_name : (input : PollInput) (jobs : Jobs) (p : PollState) → Names jobs p → Names [] (each (open_job input) jobs p)
   opens_name input [] p n = n
   opens_name input (job ∷ jobs) p n = opens_name input jobs (open_job input job p) (by (submit_gate p.trees p.jobs (lost_to_scheduler p.lost) (accepts input p) job))
@@ -122,6 +123,7 @@ module _ (own : ℕ → JobSpec) where
       by None = either (is_drain job.spec) (can_move input p.trees job.spec)
       by (Some rule) = changed_names jobs to_failed (job.id ∷ []) (λ j. refl) (λ j. refl) p (open_by input job (Some rule) p) refl refl (rest_of job jobs p n)
 
+  -- So it is after proposals are added, if each id is drawn for its own spec.
   adds_name : (place : ℕ) (drawn : List (ℕ × JobSpec)) (p : PollState) → AllByRecursion (λ d. own d.0 ≡ d.1) drawn → Names [] p → Names [] (add_drawn place drawn p)
   adds_name place [] p all n = n
   adds_name place (d ∷ drawn) p all n = adds_name (place + 1) drawn (add_by d.0 place d.1 (list_any (clashes d.1) p.jobs) p) all.1 (by (list_any (clashes d.1) p.jobs))

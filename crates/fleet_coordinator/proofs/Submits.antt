@@ -108,6 +108,7 @@ module _ {old mid : StoreView} {got : VersionedRecords} (gets : GetsRecords old 
   pub described_got : DescribeTables got.compactions.jobs mid.world.store
   described_got = got_described gets mid.world.store (store_law.later_itself mid.world.store)
 
+  -- Jobs of these specs may be submitted over the records that were got.
   pub may_submit : (moment : ℕ) (specs : List CompactionSpec) → IsSubmitter old → MaySubmit mid moment got specs
   may_submit moment specs by = record {
     keeps = kept_got;

@@ -160,6 +160,7 @@ opened_jobs_hold_their_nodes tables_of nodes jobs lost job held among = λ name.
     ∙ opened_jobs tables_of name job.id jobs lost
     ∙ sym (held_are (changed_jobs (to_scheduled tables_of) (job.id ∷ []) jobs) lost name)
 
+-- A list with one more id has an id if it had it, or if it is the one.
 pub contains_more : (xs : List ℕ) (y n : ℕ) → contains (xs ++ y ∷ []) n ≡ (contains xs n || (y == n))
 contains_more [] y n = by (y == n)
   where
@@ -212,6 +213,7 @@ holds_none change lost job ends e =
     ∙ ap (contains lost) (ends.id job)
     ∙ last_false (reserves_nodes job) (contains lost job.id) e
 
+-- If a job that holds no node ends, each node is held as before.
 ended_jobs : (change : Job → Job) (name : NodeName) (id : ℕ) (jobs : Jobs) (lost : List ℕ) → EndsJobs change → HoldsNone jobs lost id
     → held_by_any lost name jobs ≡ held_by_any lost name (changed_jobs change (id ∷ []) jobs)
 ended_jobs change name id [] lost ends none = refl

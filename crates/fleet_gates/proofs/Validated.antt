@@ -8,6 +8,7 @@ use Rattle.fleet_sched.specs.Answers.{Validates}
 pub refused : (accepted : Bool) (r : Result (Unit {0}) SlateDBError) (e : SlateDBError) → Validates accepted r → r ≡ Err e → e ≡ InvalidCompaction → false ≡ accepted
 refused accepted r e says is same = sym (subst (Validates accepted) (is ∙ ap Err same) says)
 
+-- A scheduler's error that is no verdict is out of memory.
 only_memory : (accepted : Bool) (e : SlateDBError) → Validates accepted (Err e) → (e ≡ InvalidCompaction → ⊥) → e ≡ Memory
 only_memory accepted InvalidCompaction says not = absurd (not refl)
 only_memory accepted IteratorNotInitialized says not = says

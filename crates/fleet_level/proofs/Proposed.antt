@@ -21,6 +21,7 @@ use Rattle.fleet_level.proofs.SameSizes.{trees_alike}
 abbrev pub begun_on : RunFlushes → CompactorStateView → LevelPicking
 begun_on flushes state = record { used = flat_map (λ job. nodes_of job.spec) (shown_jobs state); fresh = fresh_run_id (view_of flushes state); picks = [] }
 
+-- The first of the picks, as many as places are free, are the model's proposals on the view.
 pub proposed_is : (o : LevelOptions) (most : ℕ) (flushes : RunFlushes) (state : CompactorStateView) (slots : ℕ) (sizes : BTreeMap ℕ ℕ) (begun picked : LevelPicking) (made : List JobSpec)
     → slots ≡ free_slots most (shown_jobs state) → HasSizes sizes (map handle_of (tables_of_trees (trees_in state))) → begun ≡ begun_on flushes state
     → ((handles : List Handle) → HasSizes sizes handles → SamePicks picked (pick_trees o handles (map (segment_of flushes) (trees_in state)) begun))

@@ -89,6 +89,7 @@ abbrev Within : List SsTableHandle → List Handle → Type 0
 Within tables all = (id : ℕ) → Has (map handle_of tables) id → Has all id
 
 module _ (all more : List Handle) where
+  -- More handles change no sum of sizes of views whose tables are among the first ones.
   sums_alike : (views : List View) → Within (map (λ view. view.sst) views) all
       → sum_by (size_of_table (all ++ more)) (map (λ view. view.sst.id) views) ≡ sum_by (size_of_table all) (map (λ view. view.sst.id) views)
   sums_alike [] within = refl

@@ -28,6 +28,7 @@ use Rattle.fleet_lines.proofs.NoteLines.{others}
 use Rattle.fleet_lines.proofs.Standing.{is_found}
 use Rattle.fleet_lines.proofs.WorkLines.{as_before, at_found, work_runs}
 
+-- A claim of a live worker runs the line, and leaves the fleet with what the worker runs then.
 pub claim_runs : (merge : Operator) (number n : ℕ) (old : FleetParts) (w : WorkerParts) (attempts : List AttemptParts) (stopped : Bool) (store : StoreParts) (result : Result ClaimReport SlateDBError) (answer : List ℕ) → IsLawful merge → Stands merge old
     → find (λ (w : WorkerParts). n == w.number) old.workers ≡ Some w → stopped ≡ stops result → OnErr result (attempts ≡ w.attempts) → OnFalse stopped (MayWork merge store.world (record w { attempts = attempts; stopped = stopped }))
     → Made (claim_ends attempts) (claim (worker_options (options_of old.options)) old.moment (live_of w)) merge number (party.Worker w.number) old.store store result → Says (claim_ends attempts) (λ r. claim_reply r.begun r.stopped) result answer

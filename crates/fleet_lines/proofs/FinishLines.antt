@@ -56,6 +56,7 @@ module _ (next : List AttemptParts) (v : LiveWorker) (b : Attempt) (before left 
   other : {P : Type 0} (e end : StepEnd FinishedJob) → Some (Gives e) ≡ Some (Gives end) → (FinishEnds v b before e left → ⊥) → FinishEnds v b before end left → P
   other e end is never so = absurd (never (subst (λ (x : StepEnd FinishedJob). FinishEnds v b before x left) (sym (the_end is)) so))
 
+  -- After each refusal by which a finish may end, the worker does not run the attempt any more.
   left_ended : (e : SlateDBError) (end : StepEnd FinishedJob) → end_of (all_ends next) (Err e) ≡ Some (Gives end) → FinishEnds v b before end left → Left e
   left_ended error.StoreFault end is so = absurd (cc is)
   left_ended error.Memory end is so = absurd (cc is)

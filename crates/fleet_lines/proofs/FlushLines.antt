@@ -48,6 +48,7 @@ quiet merge number moment retention last ask answer old new waits left MeetsFaul
     (ran_runs who _ old new waits left MeetsFault (then_ran_struck who (flush moment retention last ask) (λ (e : StepEnd ⊤). Ends e) old new waits left ran))
 quiet merge number moment retention last ask answer old new waits left LacksMemory none ran says = absurd (cc says)
 
+-- A flush that the writer made runs the line, with the reply that it says.
 pub flush_runs : (merge : Operator) (number : ℕ) (ask : FlushAsk) (old : FleetParts) (store : StoreParts) (result : Result (Option FlushFault) SlateDBError) (answer : List ℕ) → IsLawful merge → IsServing merge old → MayAsk ask
     → Made coordinator.ends (flush old.moment old.options.worker.retention_ms old.last_name ask) merge number party.Writer old.store store result → Says coordinator.ends (λ done. ok) result answer
     → Runs merge number (state_of old) (flush_line ask.name ask.segment ask.floor ask.tick ask.rows (state_of old)) old (record old { store = store }) answer

@@ -21,6 +21,7 @@ pub record GoesOn (old new : List Entry) : Type 0 where
   pub more : List Entry
   pub are : new ≡ old ++ more
 
+-- A course that runs alone leaves a history that goes on from the one that it found.
 alone_goes_on : {A : Type 0} (line : ℕ) (party : Party) (course : Course A) (fault : Option Fault) (store : Store) → GoesOn store.history (run_alone line party course fault store).store.history
 alone_goes_on line party (Ends answer) fault store = record { more = []; are = sym (append-nil store.history) }
 alone_goes_on {A} line party (Calls x next) fault store = by (strikes (event_of x store) fault) (alone_goes_on line party (next store) (waiting_after (event_of x store) fault) (after_answered line party x store))

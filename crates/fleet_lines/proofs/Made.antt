@@ -110,6 +110,7 @@ the_reply a b e = cc e
 -- A line that does one step of its party.
 module _ {A : Type 0} (merge : Operator) (number : ℕ) (options : FleetOptions) (moment : ℕ) (parties : Parties) (party : Party) (step : Course (StepEnd A)) (spell : A → List ℕ) (reported : A → Parties) (refused struck : Parties) (old new : World) (waits left : Option Fault)
     (answer : List ℕ) where
+  -- The line ends as the step of its party does, with its reply and with the parties that are live after it.
   pub step_ends : (end : End (StepEnd A)) → Ran (caller_of merge number (party_of party)) step old new waits left end → end_reply spell end ≡ Some answer
       → run_line number (state_at options moment old waits parties) (step_line (party_of party) step (line_end spell reported refused) struck) ≡ (answer, state_at options moment new left (live_after reported refused struck end))
   step_ends (Gives end) ran says =

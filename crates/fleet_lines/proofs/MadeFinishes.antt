@@ -134,6 +134,7 @@ module _ (scheduler : Scheduler) (s : State) (size : ℕ) (view : StoreView) (w 
 
 -- ---- the store that is lent
 
+-- A finish over the lent store is one that the line may have, of an attempt that the worker runs.
 pub finish_made : (merge mine : Operator) (scheduler : Scheduler) (s : State) (moment size number lent : ℕ) (w : WorkerParts) (old mid new : StoreParts) (last : StoreView) (next : List AttemptParts) (result : Result Outputs SlateDBError) (job : ℕ) → IsLawful merge → mine ≡ merge
     → mid ≡ at_line number (party.Worker w.number) old → last.world ≡ new.world → last.waits ≡ new.waits → MayWork merge old.world w → s.moment ≡ moment → s.options.table_size ≡ size → s.store ≡ old.world.store → FinishRan moment w size (view_of mine lent mid) last next result job
     → FinishMade (record { merge = merge; scheduler = scheduler }) s number w old new next result job

@@ -172,6 +172,7 @@ module _ (scheduler : Scheduler) (s : State) (view : StoreView) (w : WorkerParts
         ran = record { to_end = err_alike (RunsTo (output_of view ask) view new) (output_ends (written_rows view ask) w.attempts) (output_ends (written_rows view ask) next) e (gets_end s.moment view w a place rows part merges ready run at new e until m.0).to_end };
       }
 
+  -- An output of the range ran as one that the line may have, with a refusal of the operator or without.
   pub may_run : (new : StoreView) (next : List AttemptParts) (result : Result (Option SsTableHandle) SlateDBError) → RangeRan s.moment w place rows view new (λ (answer : Option SsTableHandle). answer) next result a part → MayRun new next result
   may_run new next result ran = by ran.refusal ran.because ran.ran
     where
@@ -193,6 +194,7 @@ are_counted rows (Err e) described = tt
 are_counted rows (Ok None) described = tt
 are_counted rows (Ok (Some handle)) described = ap (λ (h : Handle). h.rows) described
 
+-- So an output of the worker is one that the line may have, of an attempt that it runs.
 pub output_made : (merge mine : Operator) (scheduler : Scheduler) (s : State) (moment number lent : ℕ) (w : WorkerParts) (place rows : ℕ) (old mid new : StoreParts) (last : StoreView) (next : List AttemptParts) (result : Result (Option SsTableHandle) SlateDBError) (job : ℕ) → IsLawful merge → 1 ≤ rows
     → mine ≡ merge → mid ≡ at_line number (party.Worker w.number) old → last.world ≡ new.world → last.waits ≡ new.waits → MayWork merge old.world w → s.moment ≡ moment → s.store ≡ old.world.store → OutputRan moment w place rows (view_of mine lent mid) last next result job
     → OutputMade (record { merge = merge; scheduler = scheduler }) s number w old new next place rows result job

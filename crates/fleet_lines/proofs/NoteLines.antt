@@ -85,6 +85,7 @@ others n workers = filter (λ w. not (n == w.number)) workers
 pub others_live : (n : ℕ) (workers : List WorkerParts) → filter (λ (w : LiveWorker). not (n == w.number)) (map live_of workers) ≡ map live_of (others n workers)
 others_live n workers = filter_map live_of (λ (w : LiveWorker). not (n == w.number)) workers
 
+-- The notes of a start, after that of a kill if the worker was live, run the line that starts a worker.
 pub start_worker_runs : (merge : Operator) (number n : ℕ) (release : Option ℕ) (named : Release) (was_live : Bool) (old : FleetParts) (mid store : StoreParts) (answer : List ℕ) → IsLawful merge → Stands merge old → release_of named ≡ release_named release
     → was_live ≡ is_some (find (λ (w : WorkerParts). n == w.number) old.workers) → Noted merge number (party.Worker n) (killed_first was_live (Worker n)) old.store mid → Noted merge number (party.Worker n) (note_event true (party.Worker n) ∷ []) mid store → answer ≡ ok
     → Runs merge number (state_of old) (start_worker n release (state_of old)) old (record old { store = store; workers = started n named ∷ others n old.workers }) answer
@@ -149,6 +150,7 @@ if_live : {A B : Type 0} (o : Option A) (none some : B) → is_some o ≡ true �
 if_live None none some e = absurd (cc e)
 if_live (Some x) none some e = refl
 
+-- The note of a kill runs the line that kills a live worker.
 pub kill_worker_runs : (merge : Operator) (number n : ℕ) (old : FleetParts) (store : StoreParts) (answer : List ℕ) → IsLawful merge → Stands merge old → is_some (find (λ (w : WorkerParts). n == w.number) old.workers) ≡ true
     → Noted merge number (party.Worker n) (note_event false (party.Worker n) ∷ []) old.store store → answer ≡ ok
     → Runs merge number (state_of old) (kill_worker n (state_of old)) old (record old { store = store; workers = others n old.workers }) answer
@@ -182,6 +184,7 @@ kill_worker_runs merge number n old store answer lawful stands live noted says =
     ran : Ran who course.course old.store.world store.world old.store.waits store.waits (Gives end)
     ran = one_note who (Kill (Worker n)) end old.store.world store.world old.store.waits store.waits noted.ran
 
+-- The note of a kill runs the line that kills or stops a live coordinator.
 pub end_coordinator_runs : (merge : Operator) (number n : ℕ) (old : FleetParts) (store : StoreParts) (answer : List ℕ) → IsLawful merge → Stands merge old → is_some (find (λ (c : LiveCoordinator). n == c.number) old.coordinators) ≡ true
     → Noted merge number (party.Coordinator n) (note_event false (party.Coordinator n) ∷ []) old.store store → answer ≡ ok
     → Runs merge number (state_of old) (end_coordinator n (state_of old)) old (record old { store = store; coordinators = filter (λ (c : LiveCoordinator). not (n == c.number)) old.coordinators }) answer

@@ -61,6 +61,7 @@ module _ (rows : List Row) (next : List AttemptParts) (v : LiveWorker) (b : Atte
   other : {P : Type 0} (e end : StepEnd Written) → Some (Gives e) ≡ Some (Gives end) → (OutputEnds v b before e left → ⊥) → OutputEnds v b before end left → P
   other e end is never so = absurd (never (subst (λ (x : StepEnd Written). OutputEnds v b before x left) (sym (the_end is)) so))
 
+  -- After each refusal by which an output may end, the worker does not run the attempt any more.
   left_refused : (e : SlateDBError) (end : StepEnd Written) → end_of ends (Err e) ≡ Some (Gives end) → OutputEnds v b before end left → Left e
   left_refused error.StoreFault end is so = absurd (cc is)
   left_refused error.Memory end is so = absurd (cc is)

@@ -61,6 +61,7 @@ module _ (inputs : Inputs) (number : ℕ) (old : FleetParts) (answer : List ℕ)
   unfolding course_of
   fault_serves k lasts stands says = replies inputs number (SetFault k lasts) old (record old { store = record old.store { waits = Some (record { k = k; stands = lasts }) } }) ok answer refl refl refl (record { keeps = stands.keeps; up = stands.up; few = stands.few }) refl says
 
+  -- A line of options is served by setting the fleet's options to its own.
   pub options_serves : (timeout concurrent slots ranges table_size : ℕ) (moves : Bool) (retention : Option ℕ) → Stands inputs.merge old → IsInBounds (Options timeout concurrent slots ranges table_size moves retention) → answer ≡ ok
       → Serves inputs number (Options timeout concurrent slots ranges table_size moves retention) old (record old {
         options = record {

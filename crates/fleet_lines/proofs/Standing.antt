@@ -50,6 +50,7 @@ pub record IsFound (merge : Operator) (fleet : FleetParts) (n : ℕ) (w : Worker
   pub runs : w.stopped ≡ false
   pub may : MayWork merge fleet.store.world w
 
+-- A worker that is found among the live ones has the number, is not stopped, and may make a step.
 pub is_found : (merge : Operator) (fleet : FleetParts) (n : ℕ) (w : WorkerParts) → Stands merge fleet → find (λ w. n == w.number) fleet.workers ≡ Some w → IsFound merge fleet n w
 is_found merge fleet n w stands e =
     let f = found (λ (w : WorkerParts). n == w.number) fleet.workers w e in

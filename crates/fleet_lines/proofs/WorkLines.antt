@@ -181,6 +181,7 @@ module _ {A B : Type 0} (merge : Operator) (number : ℕ) (old : FleetParts) (w 
 
 -- ---- heartbeats
 
+-- A heartbeat of a live worker runs the line, and leaves the fleet with what the worker runs then.
 pub beat_runs : (merge : Operator) (number n : ℕ) (old : FleetParts) (w : WorkerParts) (attempts : List AttemptParts) (stopped : Bool) (store : StoreParts) (result : Result BeatReport SlateDBError) (answer : List ℕ) → IsLawful merge → Stands merge old
     → find (λ (w : WorkerParts). n == w.number) old.workers ≡ Some w → stopped ≡ stops result → OnErr result (attempts ≡ w.attempts) → OnFalse stopped (MayWork merge store.world (record w { attempts = attempts; stopped = stopped }))
     → Made (beat_ends attempts) (heartbeat old.moment (live_of w)) merge number (party.Worker w.number) old.store store result → Says (beat_ends attempts) (λ r. beat_reply r.beat r.not_owner) result answer

@@ -45,6 +45,7 @@ none_there (Some w) e = absurd (cc e)
 
 -- ---- workers that come and go
 
+-- What a fleet did to start a worker runs the line, if the fleet gives a reply.
 pub start_said : (merge : Operator) (number n : ℕ) (release : Option ℕ) (named : Release) (was_live : Bool) (old seen : FleetParts) (taken : Option WorkerParts) (w : WorkerParts) (left workers : List WorkerParts) (mid store : StoreParts) (said : Result (List ℕ) SlateDBError) → IsLawful merge → Stands merge old
     → seen ≡ old → taken ≡ find (λ (w : WorkerParts). n == w.number) seen.workers → left ≡ others n seen.workers → was_live ≡ is_some taken → Noted merge number (party.Worker n) (killed_first was_live (Worker n)) seen.store mid
     → Noted merge number (party.Worker n) (note_event true (party.Worker n) ∷ []) mid store → release_of named ≡ release_named release → w ≡ started n named → workers ≡ cond w.stopped left (w ∷ left) → IfOk said (λ (answer : List ℕ). answer ≡ ok)
@@ -69,6 +70,7 @@ kill_said merge number n old seen taken left store (Ok answer) lawful stands sam
 
 -- ---- heartbeats
 
+-- What a fleet did for a heartbeat runs the line, if the fleet gives a reply.
 pub beat_said : (merge : Operator) (number n : ℕ) (old seen : FleetParts) (taken : Option WorkerParts) (w after : WorkerParts) (left workers : List WorkerParts) (store : StoreParts) (result : Result BeatReport SlateDBError) (said : Result (List ℕ) SlateDBError) → IsLawful merge → Stands merge old → seen ≡ old
     → taken ≡ find (λ (w : WorkerParts). n == w.number) seen.workers → left ≡ others n seen.workers → taken ≡ Some w → after.stopped ≡ stops result → after ≡ record w { attempts = after.attempts; stopped = after.stopped } → OnErr result (after.attempts ≡ w.attempts)
     → OnFalse after.stopped (MayWork merge store.world after) → Made (beat_ends after.attempts) (heartbeat seen.moment (live_of w)) merge number (party.Worker w.number) seen.store store result → workers ≡ cond after.stopped left (after ∷ left)

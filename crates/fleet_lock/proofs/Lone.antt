@@ -76,6 +76,7 @@ module _ {A : Type 0} (merge : Operator) (lent : ℕ) (p q : StoreParts) (x : St
       let s = struck_some (event_of (x p.world.store) p.world.store) p.waits q.waits m.stands (m.strikes refl) in
       (room_of (x p.world.store) p.world m.counts, (m.leaves ∙ ap (λ (k : Strike). after_call p.line (party_of p.party) (x p.world.store) k p.world) (sym s.0), (s.1, m.one_fault refl ∙ ap (λ (k : Strike). faults_after k p.faults) (sym s.0))))
 
+  -- A call that was made left what the calls of the model leave, with or without a fault.
   made_leaves : (result : Result A SlateDBError) → is_made result ≡ true → Ended (x p.world.store) p.world before after (Gives p.world.store) (Refuses p.world.store) result → Leaves
   made_leaves (Ok answer) made e = spared e.1
   made_leaves (Err StoreFault) made e = struck e
@@ -93,6 +94,7 @@ module _ {A : Type 0} (merge : Operator) (lent : ℕ) (p q : StoreParts) (x : St
   made_leaves (Err NotOwner) made e = absurd e
   made_leaves (Err (Generate message)) made e = absurd e
 
+  -- A call that was not made ran out of memory.
   lacks : (result : Result A SlateDBError) → is_made result ≡ false → Ended (x p.world.store) p.world before after (Gives p.world.store) (Refuses p.world.store) result → IsNotMade p.world before after
   lacks (Err Memory) made e = e
   lacks (Ok answer) made e = absurd (cc made)
@@ -165,6 +167,7 @@ pub record Served {A : Type 0} (merge : Operator) (lent line : ℕ) (party : Par
   pub before : view_of merge lent p ≡ lone_view merge line party lent (store_of h)
   pub after : view_of merge lent q ≡ lone_view merge line party lent (store_of (value_after (is_made result) q h))
 
+-- A call of the held store, with this line and party, leaves a value that is held and grew by the call at most.
 pub served : {A : Type 0} (merge : Operator) (lent line : ℕ) (party : Party) (h : HeldValue) (o p q : StoreParts) (x : Store → Exchange) (Gives : Store → A → Type 0) (Refuses : Store → ℕ → Type 0) (result : Result A SlateDBError)
     → IsLawful merge → IsHeld merge o h → p ≡ record o { line = line; party = party } → Called (view_of merge lent p) (view_of merge lent q) x Gives Refuses result
     → (HasRoom p.world (x p.world.store) → Lawful merge (party_of p.party) p.world (x p.world.store)) → is_deletion (x p.world.store) ≡ false → Served merge lent line party h p q result

@@ -55,6 +55,7 @@ home_set value last homes views i v w at same =
         (λ (e : t.0 ≡ i). (i, w, set_here_at views i v w at, same ∙ (ap (λ u. u.turn) (same_view views i v t.1 at (subst (λ k. get_elem? views k ≡ some t.1) e t.2)) ∙ t.3)))
         (λ ne. (t.0, t.1, set_else views i t.0 w ne ∙ t.2, t.3))
 
+-- Two views that wait still have different tickets, if the changed view has a ticket of its own.
 apart_set : (views : List Sight) (i : ℕ) (w : Sight) → Apart views → (w.waits ≡ true → (j : ℕ) (u : Sight) → j ≢ i → get_elem? views j ≡ some u → u.waits ≡ true → u.ticket ≢ w.ticket) → Apart (set views i w)
 apart_set views i w apart mine j k u v at_j at_k waits_u waits_v same =
     ⊎_elim
@@ -104,6 +105,7 @@ near {S} value passes s k =
 
 -- ---- drawing a ticket
 
+-- Drawing a ticket keeps the rule, and gives the view the next ticket.
 pub draws : {S : Type 0} (value : S → HeldValue) (passes id : ℕ) (v : Sight) → 0 < v.parts → v.waits ≡ false → v.turn ≡ false
     → Allows (Kept value passes) 1 id (v, []) 0 (λ n. (n + 1) % 2 ^ 64) (Draws (step 1 0 1 0 none) (v, []))
 draws {S} value passes id v some_part idle no_turn s k deep at fits =
@@ -162,6 +164,7 @@ has_whole {S} value passes id v s k at e =
       names = λ n. let c = total_alone (λ u. held u n) s.views id v at one (λ j u e none_left. unheld u n (gone j u e none_left)) in let q = k.names n in omega arith;
     }
 
+-- Looking at the word of the served tickets keeps the rule, and gives the turn to the view whose ticket it is.
 pub looks : {S : Type 0} (value : S → HeldValue) (passes id : ℕ) (v : Sight) → v.waits ≡ true → v.turn ≡ false
     → Allows (Kept value passes) 1 id (v, []) 1 (λ n. n) (Looks value (step 1 1 0 0 none) (v, []))
 looks {S} value passes id v waits no_turn s k deep at fits =
@@ -230,6 +233,7 @@ front_grows u v old new more apart f is mine = record {
   others = all_both (λ state. held u (name_at state) ≡ 0) f.more more f.others (all_then (λ state. HoldsName v (name_at state)) (λ state. held u (name_at state) ≡ 0) more (λ state holds. let a = apart (name_at state) in omega arith) mine);
 }
 
+-- Giving the value back keeps the rule, and ends the turn.
 pub serves : {S : Type 0} (value : S → HeldValue) (passes id : ℕ) (v : Sight) (y : S) → v.turn ≡ true → Follows v (value y)
     → Allows (Kept value passes) 1 id (v, (0, Some y) ∷ []) 1 (λ n. (n + 1) % 2 ^ 64) (Serves value (step 1 1 1 0 none) (v, (0, Some y) ∷ []))
 serves {S} value passes id v y turns follows s k deep at fits =
@@ -319,6 +323,7 @@ apart_snoc views w idle apart i j u v at_i at_j waits_u waits_v same = ⊎_elim
 front_less : (v w : Sight) (states : List StoreParts) → w.trace ≡ v.trace → ((n : ℕ) → held w n ≤ held v n) → Front v states → Front w states
 front_less v w states same less f = record { more = f.more; is = ap (λ t. t ++ f.more) same ∙ f.is; others = all_then (λ state. held v (name_at state) ≡ 0) (λ state. held w (name_at state) ≡ 0) f.more (λ state none_held. let a = less (name_at state) in omega arith) f.others }
 
+-- Splitting a view keeps the rule, and gives the new view one part and the name.
 pub splits : {S : Type 0} (value : S → HeldValue) (passes id : ℕ) (v : Sight) (name : ℕ) → 1 < v.parts → HoldsName v name → Splits (Kept value passes) id v (keeps_less v name) (newcomer v name)
 splits {S} value passes id v name two holds s k at =
     let w = keeps_less v name in
@@ -360,6 +365,7 @@ record SeesLonger (last : HeldValue) (both : Sight) (base : StoreParts) (trace :
   pub other_is : other_base ≡ last.base
   pub front : IsFront other_trace trace
 
+-- Two views that fit are joined to one that has seen the longer of their histories.
 join_sees : (last : HeldValue) (passes drawn served : ℕ) (v w : Sight) → ((n : ℕ) → held (joined v w) n ≡ held v n + held w n) → Fits last passes drawn served v → Fits last passes drawn served w
     → SeesLonger last (joined v w) (joined v w).base (joined v w).trace (joined v w).other_base (joined v w).other_trace
 join_sees last passes drawn served v w together f g = choose (sees_less v w) refl
@@ -402,6 +408,7 @@ join_sees last passes drawn served v w together f g = choose (sees_less v w) ref
           front = front_between w.trace v.trace g.seen.more f.seen.more last.trace g.seen.is f.seen.is le;
         }
 
+-- Joining two views keeps the rule.
 pub joins : {S : Type 0} (value : S → HeldValue) (passes id other : ℕ) (v w : Sight) → 0 < v.parts → v.waits ≡ false → v.turn ≡ false → 0 < w.parts → w.waits ≡ false → w.turn ≡ false
     → Joins (Kept value passes) id v other w (joined v w) spent
 joins {S} value passes id other v w some_part idle no_turn some_other idle_other no_turn_other s k at ne there =
@@ -436,6 +443,7 @@ joins {S} value passes id other v w some_part idle no_turn some_other idle_other
 
 -- ---- opening
 
+-- The first view of a value that was just shared meets the rule.
 pub opens : {S : Type 0} (value : S → HeldValue) (passes : ℕ) (y : S) → 0 < passes → passes < 2 ^ 32 → (value y).trace ≡ [] → Kept value passes (opening (0 ∷ 0 ∷ []) (Some y ∷ []) (opener passes (value y)))
 opens {S} value passes y some_pass few empty = record {
   last = value y;
@@ -471,6 +479,7 @@ opens {S} value passes y some_pass few empty = record {
 
 -- ---- a look with no ticket
 
+-- Looking without a ticket keeps the rule, and tells what the joined histories have in common.
 pub tells : {S : Type 0} (value : S → HeldValue) (passes id : ℕ) (v : Sight) → 0 < v.parts → Allows (Kept value passes) 1 id (v, []) 1 (λ n. n) (Tells (step 1 1 0 0 none) (v, []))
 tells {S} value passes id v some_part s k deep at fits =
     let still : set s.views id v ≡ s.views = set_again s.views id v at in

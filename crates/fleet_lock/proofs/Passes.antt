@@ -23,6 +23,7 @@ still_holds v name own names holds mine other = by (name == own) refl (held_spli
     by true e together = absurd (other (eqb-true name own e))
     by false e together = omega arith
 
+-- A pass that hands on another name than its party's is still a pass.
 pub split_keeps : (views after : List Sight) (parts seen name : ℕ) (party : Party) → IsPass views parts seen party → after ≡ keeps_less (first_view views) name ∷ [] → 1 < parts → HoldsName (first_view views) name → name ≢ name_of (party_of party)
     → IsPass after (parts - 1) seen party
 split_keeps views after parts seen name party is now two holds other =
@@ -48,6 +49,7 @@ max_seen v w m n a b = by (sees_less v w) refl
     by true e = let le = below (length_of (seen_of v)) (length_of (seen_of w)) e in omega arith
     by false e = let le = not_below (length_of (seen_of v)) (length_of (seen_of w)) e in omega arith
 
+-- A pass that takes over another one is still a pass, with the parts of both.
 pub join_keeps : (views others after : List Sight) (parts other_parts seen other_seen : ℕ) (party other_party : Party) → IsPass views parts seen party → IsPass others other_parts other_seen other_party
     → after ≡ joined (first_view views) (first_view others) ∷ [] → IsPass after (parts + other_parts) (max seen other_seen) party
 join_keeps views others after parts other_parts seen other_seen party other_party is from now =

@@ -29,6 +29,7 @@ same_table a b e =
     let names : a.slot_names ≡ b.slot_names = cc e in
     λ i. record { words = words i; slots = slots i; views_name = views i; atom = atom i; block = block i; offset = offset i; slot_names = names i }
 
+-- The law: if two passes show the same caller, they are the same pass.
 pub callers_keep_passes : CallersKeepPasses
 callers_keep_passes folds lent old new same =
     let v = old.sight in

@@ -55,6 +55,7 @@ module _ (a b c d : StoreView) (line : a.who.line ≡ c.who.line) (party : a.who
   struck_shared : (x : Exchange) (met : World) → IsStruck x met a b → IsStruck x met c d
   struck_shared x met m = record { counts = m.counts; stands = m.stands; leaves = worlds ∙ (m.leaves ∙ same_call x (Some m.stands) met); strikes = never; fault = faults (m.one_fault lone); one_fault = never }
 
+  -- A call that ended so for a caller that is alone ended so for one that is not.
   pub ended_shared : {A : Type 0} (x : Exchange) (met : World) (Gives : A → Type 0) (Refuses : ℕ → Type 0) (result : Result A SlateDBError) → Ended x met a b Gives Refuses result → Ended x met c d Gives Refuses result
   ended_shared x met Gives Refuses (Ok answer) e = (e.0, made_shared x met e.1)
   ended_shared x met Gives Refuses (Err StoreFault) e = struck_shared x met e
@@ -149,6 +150,7 @@ long_left merge line party made h left steps grows = by made refl
     by true e = let g = grows.one e in at_states (h.trace ++ g.0 ∷ []) g.1.trace (steps_push merge h.base h.trace g.0 steps g.1.step)
     by false e = at_states h.trace (grows.same e) steps
 
+-- The value that a pass gives back follows what the pass found.
 pub follows_found : (folds : List ℕ → Operator) (line : ℕ) (party : Party) (made : Bool) (v : Sight) (t : ℕ) (h left : HeldValue) → Finds folds v h → Grows (folds h.settings) line party made h left → HoldsName v (name_of (party_of party))
     → Follows (with_turn (with_ticket v t) h) left
 follows_found folds line party made v t h left finds grows name = by made refl

@@ -90,6 +90,7 @@ found_nowhere (x ∷ xs) = found_nowhere xs
 abbrev ids_of : Option (List View) → Option (List ℕ)
 ids_of o = option_map (map (λ (view : View). view.sst.id)) o
 
+-- The tables of the node in a program's tree are those of the model's node.
 named_in : (n : NodeName) (tree : LsmTreeState) → pieces_if (node_named n (tree_of (λ run. []) tree)) ≡ ids_of (views_named n tree)
 named_in (L0 name) tree =
     ap pieces_if (find_append (λ (node : Node). name_eq (L0 name) node.name) (map (flush_node (λ run. [])) tree.l0) (map (run_node (λ run. [])) tree.compacted)
@@ -126,6 +127,7 @@ same_pieces m store n segment is =
 -- ---- the views of a node
 
 module _ (P : View → Type 0) where
+  -- What holds of all views of a tree holds of those of its node.
   in_tree : (n : NodeName) (tree : LsmTreeState) (vs : List View) → AllByRecursion P (tree_views tree) → views_named n tree ≡ Some vs → AllByRecursion P vs
   in_tree (L0 name) tree vs all e = by (find (λ (view : View). name == view.id) tree.l0) refl e
     where
@@ -159,6 +161,7 @@ pub data IsLook (store : Store) (n : NodeName) (segment : List ℕ) : Option (Li
   There : (handles : List SsTableHandle) (node : Node) → node_named n (tree_at segment store.manifest.trees) ≡ Some node → map (λ (h : SsTableHandle). h.id) handles ≡ node.pieces → AllByRecursion (IsDescribed store.tables) handles
       → IsLook store n segment (Some handles)
 
+-- The handles of a node in the stored manifest are what the model's line looks at.
 pub look : (m : VersionedManifest) (store : Store) (n : NodeName) (segment : List ℕ) (handles : Option (List SsTableHandle)) → IsManifest m store → handles ≡ option_map (map (λ (view : View). view.sst)) (views_at m.manifest.core segment n) → IsLook store n segment handles
 look m store n segment handles is e = by (views_at m.manifest.core segment n) refl (node_named n (tree_at segment store.manifest.trees)) refl (same_pieces m store n segment is) handles e
   where

@@ -49,6 +49,7 @@ lowered : (low key : List ℕ) (keys : List (List ℕ)) → key_cmp low key ≡ 
 unfolding IsStrictlySortedBy
 lowered low key keys below rises = ((below, all_weaken (λ k. key_cmp key k ≡ Less) (λ k. key_cmp low k ≡ Less) (λ k above. nat_list_cmp_total.trans low key k below above) keys rises.0), rises)
 
+-- The keys that are cut at, after the last one, rise.
 cut_rises : (most target standing before threshold : ℕ) (last : List ℕ) (anchors : List Anchor) → IsStrictlySortedBy key_cmp (last ∷ cuts most target standing before threshold last anchors)
 unfolding IsStrictlySortedBy
 cut_rises most target standing before threshold last [] = (tt, tt)

@@ -30,7 +30,7 @@ use Rattle.fleet_poll.specs.Seen.{AreTold, IsTold, JobsTold, Sees, ViewTold, Vie
 use Rattle.fleet_poll.specs.Shown.{shown}
 use Rattle.fleet_poll.specs.declared.poll.Poll.{Poll}
 use Rattle.fleet_poll.proofs.Joined.{written_ids}
-use Rattle.fleet_poll.proofs.Told.{all_back, all_both, all_front}
+use Rattle.fleet_poll.proofs.MatchedTables.{all_back, all_both, all_front}
 
 -- The handles of the tables of a run.
 abbrev run_handles : SortedRun → List SsTableHandle
@@ -89,39 +89,39 @@ all_job_ids (job ∷ jobs) =
 
 -- ---- handles
 
-told_handles : (tables : Tables) (handles : List SsTableHandle) → AreTold tables handles → map handle_of handles ≡ handles_of tables (table_ids handles)
-told_handles tables [] told = refl
-told_handles tables (handle ∷ handles) told = rw (told.0.describes, told_handles tables handles told.1) refl
+matched_handles : (tables : Tables) (handles : List SsTableHandle) → AreTold tables handles → map handle_of handles ≡ handles_of tables (table_ids handles)
+matched_handles tables [] matched = refl
+matched_handles tables (handle ∷ handles) matched = rw (matched.0.describes, matched_handles tables handles matched.1) refl
 
-view_handles_told : (tables : Tables) (views : List own.View) → ViewsTold tables views → AreTold tables (map (λ view. view.sst) views)
-view_handles_told tables [] told = tt
-view_handles_told tables (view ∷ views) told = (told.0.handle, view_handles_told tables views told.1)
+view_handles_matched : (tables : Tables) (views : List own.View) → ViewsTold tables views → AreTold tables (map (λ view. view.sst) views)
+view_handles_matched tables [] matched = tt
+view_handles_matched tables (view ∷ views) matched = (matched.0.handle, view_handles_matched tables views matched.1)
 
-run_handles_told : (tables : Tables) (runs : List SortedRun) → ViewsTold tables (flat_map (λ run. run.views) runs) → AreTold tables (flat_map run_handles runs)
-run_handles_told tables [] told = tt
-run_handles_told tables (run ∷ runs) told =
-    all_both (IsTold tables) (run_handles run) (flat_map run_handles runs) (view_handles_told tables run.views (all_front (ViewTold tables) run.views (flat_map (λ r. r.views) runs) told))
-    (run_handles_told tables runs (all_back (ViewTold tables) run.views (flat_map (λ r. r.views) runs) told))
+run_handles_matched : (tables : Tables) (runs : List SortedRun) → ViewsTold tables (flat_map (λ run. run.views) runs) → AreTold tables (flat_map run_handles runs)
+run_handles_matched tables [] matched = tt
+run_handles_matched tables (run ∷ runs) matched =
+    all_both (IsTold tables) (run_handles run) (flat_map run_handles runs) (view_handles_matched tables run.views (all_front (ViewTold tables) run.views (flat_map (λ r. r.views) runs) matched))
+    (run_handles_matched tables runs (all_back (ViewTold tables) run.views (flat_map (λ r. r.views) runs) matched))
 
-tree_handles_told : (tables : Tables) (tree : LsmTreeState) → ViewsTold tables (views_of tree) → AreTold tables (tree_handles tree)
-tree_handles_told tables tree told =
-    all_both (IsTold tables) (map (λ view. view.sst) tree.l0) (flat_map run_handles tree.compacted) (view_handles_told tables tree.l0 (all_front (ViewTold tables) tree.l0 (flat_map (λ r. r.views) tree.compacted) told))
-    (run_handles_told tables tree.compacted (all_back (ViewTold tables) tree.l0 (flat_map (λ r. r.views) tree.compacted) told))
+tree_handles_matched : (tables : Tables) (tree : LsmTreeState) → ViewsTold tables (views_of tree) → AreTold tables (tree_handles tree)
+tree_handles_matched tables tree matched =
+    all_both (IsTold tables) (map (λ view. view.sst) tree.l0) (flat_map run_handles tree.compacted) (view_handles_matched tables tree.l0 (all_front (ViewTold tables) tree.l0 (flat_map (λ r. r.views) tree.compacted) matched))
+    (run_handles_matched tables tree.compacted (all_back (ViewTold tables) tree.l0 (flat_map (λ r. r.views) tree.compacted) matched))
 
-all_trees_told : (tables : Tables) (trees : List (List ℕ × LsmTreeState)) → AllByRecursion (λ s. ViewsTold tables (views_of s.1)) trees → AreTold tables (flat_map (λ s. tree_handles s.1) trees)
-all_trees_told tables [] told = tt
-all_trees_told tables (s ∷ trees) told = all_both (IsTold tables) (tree_handles s.1) (flat_map (λ t. tree_handles t.1) trees) (tree_handles_told tables s.1 told.0) (all_trees_told tables trees told.1)
+all_trees_matched : (tables : Tables) (trees : List (List ℕ × LsmTreeState)) → AllByRecursion (λ s. ViewsTold tables (views_of s.1)) trees → AreTold tables (flat_map (λ s. tree_handles s.1) trees)
+all_trees_matched tables [] matched = tt
+all_trees_matched tables (s ∷ trees) matched = all_both (IsTold tables) (tree_handles s.1) (flat_map (λ t. tree_handles t.1) trees) (tree_handles_matched tables s.1 matched.0) (all_trees_matched tables trees matched.1)
 
 all_flat : {A : Type 0} (tables : Tables) (f : A → List SsTableHandle) (xs : List A) → AllByRecursion (λ x. AreTold tables (f x)) xs → AreTold tables (flat_map f xs)
-all_flat tables f [] told = tt
-all_flat tables f (x ∷ xs) told = all_both (IsTold tables) (f x) (flat_map f xs) told.0 (all_flat tables f xs told.1)
+all_flat tables f [] matched = tt
+all_flat tables f (x ∷ xs) matched = all_both (IsTold tables) (f x) (flat_map f xs) matched.0 (all_flat tables f xs matched.1)
 
-open_told : (tables : Tables) (jobs : List JobParts) → JobsTold tables jobs → JobsTold tables (filter is_open jobs)
-open_told tables [] told = tt
-open_told tables (job ∷ jobs) told = by (is_open job) (open_told tables jobs told.1)
+open_matched : (tables : Tables) (jobs : List JobParts) → JobsTold tables jobs → JobsTold tables (filter is_open jobs)
+open_matched tables [] matched = tt
+open_matched tables (job ∷ jobs) matched = by (is_open job) (open_matched tables jobs matched.1)
   where
     by : (b : Bool) → JobsTold tables (filter is_open jobs) → JobsTold tables (cond b (job ∷ filter is_open jobs) (filter is_open jobs))
-    by true rest = (told.0, rest)
+    by true rest = (matched.0, rest)
     by false rest = rest
 
 -- ---- jobs that are not over
@@ -164,10 +164,10 @@ module _ (flushes : RunFlushes) (input : PollInput) (s : Scheduler) (poll : Poll
 
   handles_are : map handle_of (handles_in (shown poll.state)) ≡ handles_of input.tables (named_tables (trees_of flushes (own_core poll.state)) (filter is_active (jobs_of (own_jobs poll.state))))
   handles_are =
-      told_handles input.tables (handles_in (shown poll.state))
+      matched_handles input.tables (handles_in (shown poll.state))
       (all_both (IsTold input.tables) (flat_map (λ s. tree_handles s.1) (trees_with_prefix (own_core poll.state))) (flat_map job_handles (filter is_open still_open))
-      (all_trees_told input.tables (trees_with_prefix (own_core poll.state)) sees.trees)
-      (all_flat input.tables job_handles (filter is_open still_open) (open_told input.tables still_open (open_told input.tables (own_jobs poll.state) sees.jobs))))
+      (all_trees_matched input.tables (trees_with_prefix (own_core poll.state)) sees.trees)
+      (all_flat input.tables job_handles (filter is_open still_open) (open_matched input.tables still_open (open_matched input.tables (own_jobs poll.state) sees.jobs))))
       ∙ ap (handles_of input.tables) ids_are
 
   -- The model's scheduler is shown what the program shows.

@@ -60,6 +60,7 @@ stand_in flushes state s held lost failed found said decides none job e =
     let here : Said flushes state s held lost failed job = subst (λ f. IfSome f (Said flushes state s held lost failed)) e said in
     submitted_sources_stand flushes (jobs_of (own_jobs state)) lost (accepted_on flushes (shown state) s) job (own_core state) (sym (here (decides job e)) ∙ ap numbered none)
 
+-- A step for a submitted job by the answer of its gate is the model's step 4 for the job.
 pub opened_in : (flushes : RunFlushes) (input : PollInput) (moves : Bool) (before after : Poll) (s : Scheduler) (held : List NodeName) (failed : Option Rule) (found : Option JobParts)
     → IfSome found (Said flushes before.state s held (lost_to_scheduler before.lost) failed) → ForSome found (λ job. Decides held (jobs_of (own_jobs before.state)) (lost_to_scheduler before.lost) (job_of job))
     → IfSome found (λ made. AllByRecursion (EndsFit input.tables) (taken_tables made.spec (own_core before.state))

@@ -24,7 +24,7 @@ use Rattle.fleet_poll.specs.Loops.{OthersStay, StillSees}
 use Rattle.fleet_poll.specs.Polls.{HasSameObjects, changed_record, failed, waiting}
 use Rattle.fleet_poll.specs.Seen.{AreTold, JobsTold, Sees, TreesTold, ViewsTold, rest_of}
 use Rattle.fleet_poll.proofs.Changed.{found_has_id, others_stay}
-use Rattle.fleet_poll.proofs.Told.{changed_hold, finished_trees_told, found_holds, joined_told, output_views, put_holds, written_told}
+use Rattle.fleet_poll.proofs.MatchedTables.{changed_hold, finished_trees_matched, found_holds, joined_matched, output_views, put_holds, written_matched}
 
 -- ---- a job that is finished
 
@@ -39,20 +39,20 @@ pub finished_others : (id : ℕ) (job : JobParts) (output : Option SortedRun) (o
 finished_others id job output old new same is = λ other apart.
     ap (λ s. record_with other (own_jobs s)) is ∙ others_stay (with_status own.Completed job) (own_jobs old) other (ap (λ i. i == other) same ∙ apart)
 
--- What an input says of the state, it says of the state after a job is finished with told tables.
+-- What an input says of the state, it says of the state after a job is finished with tables that match those that were put.
 pub finished_sees : (job : JobParts) (output : Option SortedRun) (old : StateParts) (id : ℕ) → record_with id (own_jobs old) ≡ Some job
     → ((input : PollInput) (scheduler : Scheduler) → Sees input scheduler old → AreTold input.tables (job_handles job) → ViewsTold input.tables (output_views output))
     → StillSees old (finished_state job output old)
 finished_sees job output old id found made input scheduler sees =
-    let told = found_holds (λ j. AreTold input.tables (job_handles j)) id (own_jobs old) job found sees.jobs in
+    let matched = found_holds (λ j. AreTold input.tables (job_handles j)) id (own_jobs old) job found sees.jobs in
     record {
       scheduler_is = sees.scheduler_is;
       manifest = sees.manifest;
       version = sees.version;
       epoch = sees.epoch;
       prefixes = finished_prefixes job output (own_core old) sees.prefixes;
-      trees = finished_trees_told input.tables job output (own_core old) (made input scheduler sees told) sees.trees;
-      jobs = put_holds (λ j. AreTold input.tables (job_handles j)) (with_status own.Completed job) (own_jobs old) told sees.jobs;
+      trees = finished_trees_matched input.tables job output (own_core old) (made input scheduler sees matched) sees.trees;
+      jobs = put_holds (λ j. AreTold input.tables (job_handles j)) (with_status own.Completed job) (own_jobs old) matched sees.jobs;
     }
 
 -- ---- a job whose record is changed alone
@@ -60,8 +60,9 @@ finished_sees job output old id found made input scheduler sees =
 -- A change that leaves the id of a job, and after which it names no other tables.
 pub record NamesNoMore (change : JobParts → JobParts) : Type 0 where
   pub id : (job : JobParts) → (change job).id ≡ job.id
-  pub told : (input : PollInput) (job : JobParts) → AreTold input.tables (job_handles job) → AreTold input.tables (job_handles (change job))
+  pub matched : (input : PollInput) (job : JobParts) → AreTold input.tables (job_handles job) → AreTold input.tables (job_handles (change job))
 
+-- A change of the job with one id leaves the record of each other job as it is.
 changed_stay : (change : JobParts → JobParts) (id : ℕ) (jobs : List JobParts) (other : ℕ) → ((job : JobParts) → (change job).id ≡ job.id) → (id == other) ≡ false
     → record_with other (map (changed_record change (id ∷ [])) jobs) ≡ record_with other jobs
 changed_stay change id [] other same apart = refl
@@ -91,7 +92,7 @@ changed_sees change these old new names same is input scheduler sees = record {
   epoch = sees.epoch ∙ sym same.epoch;
   prefixes = subst (λ (m : VersionedManifest). PrefixesRise m.manifest.core) (sym same.manifest) sees.prefixes;
   trees = subst (λ (m : VersionedManifest). TreesTold input.tables m.manifest.core) (sym same.manifest) sees.trees;
-  jobs = subst (JobsTold input.tables) (sym is) (changed_hold (λ j. AreTold input.tables (job_handles j)) change these (own_jobs old) (names.told input) sees.jobs);
+  jobs = subst (JobsTold input.tables) (sym is) (changed_hold (λ j. AreTold input.tables (job_handles j)) change these (own_jobs old) (names.matched input) sees.jobs);
 }
 
 -- ---- the steps
@@ -101,7 +102,7 @@ on_both (Ok x) f p q = f p q
 on_both (Err e) f p q = tt
 
 pub failed_names : NamesNoMore failed
-failed_names = record { id = λ job. refl; told = λ input job told. written_told input.tables job told }
+failed_names = record { id = λ job. refl; matched = λ input job matched. written_matched input.tables job matched }
 
 -- What is left by the step of a job that is found, and that is finished with a run of its own tables.
 pub joined_others : (id : ℕ) (found : Option JobParts) (old new : StateParts) → record_with id (own_jobs old) ≡ found → IsSome found → IfSome found (λ job. new ≡ finished_state job (joined_run job) old) → OthersStay id old new
@@ -110,7 +111,7 @@ joined_others id (Some job) old new e there is = finished_others id job (joined_
 
 pub joined_sees : (id : ℕ) (found : Option JobParts) (old new : StateParts) → record_with id (own_jobs old) ≡ found → IsSome found → IfSome found (λ job. new ≡ finished_state job (joined_run job) old) → StillSees old new
 joined_sees id None old new e there is = absurd (cc there)
-joined_sees id (Some job) old new e there is = subst (StillSees old) (sym is) (finished_sees job (joined_run job) old id e (λ input scheduler sees told. joined_told input.tables job told))
+joined_sees id (Some job) old new e there is = subst (StillSees old) (sym is) (finished_sees job (joined_run job) old id e (λ input scheduler sees matched. joined_matched input.tables job matched))
 
 pub on_three : {A E P Q R S : Type 0} (r : Result A E) → (P → Q → R → S) → OnOk r P → OnOk r Q → OnOk r R → OnOk r S
 on_three (Ok x) f p q s = f p q s
@@ -129,4 +130,4 @@ added_sees old new job id spec fresh is input scheduler sees = subst (Sees input
 })
 
 pub waiting_names : NamesNoMore waiting
-waiting_names = record { id = λ job. refl; told = λ input job told. told }
+waiting_names = record { id = λ job. refl; matched = λ input job matched. matched }

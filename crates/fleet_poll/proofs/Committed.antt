@@ -32,7 +32,7 @@ use Rattle.fleet_poll.specs.Shown.{PassesCommit, commit_rule}
 use Rattle.fleet_poll.specs.Loops.{CommitsStand, HasReached, LostAreOver, MayCommit, MayJoin, OthersStay, StillSees, is_compacted}
 use Rattle.fleet_poll.specs.declared.poll.Poll.{Poll}
 use Rattle.fleet_poll.proofs.Alike.{accepted_alike}
-use Rattle.fleet_poll.proofs.Told.{found_holds, written_told}
+use Rattle.fleet_poll.proofs.MatchedTables.{found_holds, written_matched}
 
 -- ---- one job
 
@@ -74,19 +74,20 @@ makes_run trees tree sources None fits = absurd fits
 makes_run trees tree sources (Some id) fits = refl
 
 ends_rise : (input : PollInput) (tables : List SsTableHandle) → AreTold input.tables tables → EndsRise tables
-ends_rise input [] told = tt
-ends_rise input (table ∷ tables) told = (told.0.rising, ends_rise input tables told.1)
+ends_rise input [] matched = tt
+ends_rise input (table ∷ tables) matched = (matched.0.rising, ends_rise input tables matched.1)
 
+-- A job that passes its gate may be joined, if its sources stand whenever it passes the model's gate.
 pub stands_in : (flushes : RunFlushes) (input : PollInput) (s : Scheduler) (poll : Poll) (id : ℕ) (job : JobParts) → Sees input s poll.state → record_with id (own_jobs poll.state) ≡ Some job
     → (commit_gate (poll_of flushes poll).trees (accepts input (poll_of flushes poll)) (job_of job) ≡ None → SourcesStand (poll_of flushes poll).trees (job_of job))
     → PassesCommit s poll.state job → MayJoin job (own_core poll.state)
 stands_in flushes input s poll id job sees found stands passes =
     let core = own_core poll.state in
     let stand = stands (rule_alike flushes input s poll job sees ∙ passes flushes) in
-    let told = found_holds (λ j. AreTold input.tables (job_handles j)) id (own_jobs poll.state) job found sees.jobs in
+    let matched = found_holds (λ j. AreTold input.tables (job_handles j)) id (own_jobs poll.state) job found sees.jobs in
     record {
       run = makes_run (trees_of flushes core) (tree_at (segment_of job.spec) (trees_of flushes core)) (names_of job.spec) (destination_of job.spec) stand.destination;
-      keys = ends_rise input (written_tables job) (written_told input.tables job told);
+      keys = ends_rise input (written_tables job) (written_matched input.tables job matched);
       stand = standing_sources_stand flushes job core stand;
     }
 
@@ -230,6 +231,7 @@ picked_apart p (job ∷ jobs) rising = by (p job) (picked_apart p jobs rising.1)
     by true rest = (picked_hold p (λ other. (job.id == other.id) ≡ false) jobs (all_apart job.id jobs rising.0), rest)
     by false rest = rest
 
+-- Before the first commit, all Compacted jobs are left, and may be committed one after the other.
 pub commits_begin : (s : Scheduler) (initial : Poll) → AreRising (own_jobs initial.state) → MayCommit s (filter is_compacted (own_jobs initial.state)) initial → CommitsOn s initial (filter is_compacted (own_jobs initial.state)) initial
 commits_begin s initial rising may = record {
   may = may;

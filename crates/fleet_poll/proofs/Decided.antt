@@ -25,11 +25,11 @@ use Rattle.fleet_poll.proofs.Carried.{NamesNoMore, changed_others, changed_sees,
 use Rattle.fleet_poll.proofs.Changed.{found_has_id}
 use Rattle.fleet_poll.proofs.Finished.{completed_jobs}
 use Rattle.fleet_poll.proofs.Records.{failed_are, opened_are}
-use Rattle.fleet_poll.proofs.Taken.{moved_told, taken_told}
-use Rattle.fleet_poll.proofs.Told.{output_views, written_told}
+use Rattle.fleet_poll.proofs.Taken.{moved_matched, taken_matched}
+use Rattle.fleet_poll.proofs.MatchedTables.{output_views, written_matched}
 
 opened_names : (trees : Trees) → NamesNoMore (opened trees)
-opened_names trees = record { id = λ job. refl; told = λ input job told. written_told input.tables job told }
+opened_names trees = record { id = λ job. refl; matched = λ input job matched. written_matched input.tables job matched }
 
 pub by_refusal : (id : ℕ) (old new : Poll) → HasSameObjects old.state new.state → own_jobs new.state ≡ map (changed_record failed (id ∷ [])) (own_jobs old.state) → new.lost ≡ old.lost → IsDecision id old new
 by_refusal id old new same jobs lost = record {
@@ -50,22 +50,22 @@ by_opening id old new same jobs lost =
       jobs = Waits (tables_now trees) (ap jobs_of jobs ∙ opened_are trees (id ∷ []) (own_jobs old.state));
     }
 
--- A job that is finished at once, with told tables.
+-- A job that is finished at once, with tables that match the tables that were put.
 finished_is : (id : ℕ) (old new : Poll) (job : JobParts) (output : Option SortedRun) → AreRising (own_jobs old.state) → record_with id (own_jobs old.state) ≡ Some job → new.state ≡ finished_state job output old.state
     → ((input : PollInput) (scheduler : Scheduler) → Sees input scheduler old.state → AreTold input.tables (job_handles job) → ViewsTold input.tables (output_views output))
     → new.lost ≡ old.lost → IsDecision id old new
-finished_is id old new job output rising found is told lost =
+finished_is id old new job output rising found is matched lost =
     let same : job.id ≡ id = found_has_id id (own_jobs old.state) job found in
     record {
       others = finished_others id job output old.state new.state same is;
-      sees = subst (λ s. StillSees old.state s) (sym is) (finished_sees job output old.state id found told);
+      sees = subst (λ s. StillSees old.state s) (sym is) (finished_sees job output old.state id found matched);
       lost = lost;
       jobs = Ends (ap (λ s. jobs_of (own_jobs s)) is ∙ completed_jobs id (own_jobs old.state) job rising found ∙ ap (λ n. changed_jobs to_completed (n ∷ []) (jobs_of (own_jobs old.state))) same);
     }
 
 pub by_drain : (id : ℕ) (old new : Poll) (found : Option JobParts) → AreRising (own_jobs old.state) → record_with id (own_jobs old.state) ≡ found → IsSome found → IfSome found (λ job. new.state ≡ finished_state job None old.state) → new.lost ≡ old.lost → IsDecision id old new
 by_drain id old new None rising e there is lost = absurd (cc there)
-by_drain id old new (Some job) rising e there is lost = finished_is id old new job None rising e is (λ input scheduler sees told. tt) lost
+by_drain id old new (Some job) rising e there is lost = finished_is id old new job None rising e is (λ input scheduler sees matched. tt) lost
 
 pub by_move : (id : ℕ) (old new : Poll) (found : Option JobParts) → AreRising (own_jobs old.state) → record_with id (own_jobs old.state) ≡ found → IsSome found
     → IfSome found (λ job. new.state ≡ finished_state job (run_if_moved (Some job) (own_core old.state)) old.state) → new.lost ≡ old.lost → IsDecision id old new
@@ -73,4 +73,4 @@ by_move id old new None rising e there is lost = absurd (cc there)
 by_move id old new (Some job) rising e there is lost =
     let core = own_core old.state in
     finished_is id old new job (run_if_moved (Some job) core) rising e is
-    (λ input scheduler sees told. moved_told input.tables (destination_of job.spec) (taken_tables job.spec core) (taken_told input.tables job.spec core sees.trees)) lost
+    (λ input scheduler sees matched. moved_matched input.tables (destination_of job.spec) (taken_tables job.spec core) (taken_matched input.tables job.spec core sees.trees)) lost

@@ -31,6 +31,7 @@ drain_horizon : (floor : ℕ) (cut destination : Option ℕ) (horizon : ℕ) (id
 drain_horizon floor cut None horizon id is_joined e = refl
 drain_horizon floor cut (Some run) horizon id is_joined e = absurd (cc e)
 
+-- After a drain, the poll has reached what the model's drain of the job leaves.
 pub drained_in : (flushes : RunFlushes) (input : PollInput) (poll : Poll) (state : StateParts) (steps : List Step) (drained : List ℕ) (id : ℕ) (found : Option JobParts)
     → AreRising (own_jobs poll.state) → record_with id (own_jobs poll.state) ≡ found → ForSome found (λ job. destination_of job.spec ≡ None)
     → IfSome found (λ job. state ≡ finished_state job None poll.state) → steps ≡ poll.steps ++ Drain id ∷ [] → drained ≡ poll.drained ++ id ∷ []

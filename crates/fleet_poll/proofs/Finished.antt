@@ -71,6 +71,7 @@ finished_in before after poll state steps id job output trees horizon step taken
 
 -- ---- moves
 
+-- A move makes the run of its destination.
 moved_to : (destination : Option ℕ) (views : List View) (run : SortedRun) → moved_run destination views ≡ Some run → destination ≡ Some run.id
 moved_to None views run e = absurd (cc e)
 moved_to (Some id) views run e = by (is_nonempty (by_start views) && are_disjoint (by_start views)) e
@@ -96,6 +97,7 @@ move_horizon floor cut None horizon id run is_joined e f = absurd (cc e)
 move_horizon floor cut (Some made) horizon id run true e f = absurd (cc f)
 move_horizon floor cut (Some made) horizon id run false e f = refl
 
+-- After a move, the poll has reached what the model's move of the job leaves.
 pub moved_in : (flushes : RunFlushes) (input : PollInput) (poll : Poll) (state : StateParts) (steps : List Step) (moved : List ℕ) (id : ℕ) (found : Option JobParts) (run : SortedRun)
     → AreRising (own_jobs poll.state) → record_with id (own_jobs poll.state) ≡ found → ForSome found (λ job. has_status Compacted (job_of job) ≡ false)
     → ForSome found (λ job. sources_stand job.spec poll.state.manifest.manifest.core ≡ true) → Some run ≡ run_if_moved found poll.state.manifest.manifest.core

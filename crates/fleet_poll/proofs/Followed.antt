@@ -113,6 +113,7 @@ module _ (sources : List SourceId) (id : ℕ) where
       by true e rest = rest
       by false e rest = (other_than_source source run.id e, rest)
 
+  -- If all runs of the tree are below the id, then no run that is kept has the id.
   others_below : (views : List View) (runs : List SortedRun) → list_all (λ other. nat_lt other id) (run_ids (map (λ view. L0 view.id) views ++ map (λ run. Run run.id) runs)) ≡ true → OthersHave id (kept_runs sources runs)
   others_below (view ∷ views) runs below = others_below views runs below
   others_below [] [] below = tt
@@ -146,6 +147,7 @@ all_of [] each = tt
 all_of (x ∷ xs) each = (each x, all_of xs each)
 
 module _ (flushes : RunFlushes) (spec : CompactionSpec) (core : ManifestCore) (id : ℕ) (makes : destination_of spec ≡ Some id) (stand : sources_stand spec core ≡ true) where
+  -- In a tree of the job's segment its run has the flushes of all its sources, and each other run keeps its own.
   follow_one : (s : List ℕ × LsmTreeState) → IsFound (segment_of spec) (trees_with_prefix core) s → FlushesFollow flushes (flushes_after spec core flushes) spec id s
   follow_one s found = record { gathered = λ e. all_in e; kept = kept_in (bytes_eq (segment_of spec) s.0) refl }
     where
@@ -201,6 +203,7 @@ later_first : (name : NodeName) (names : List NodeName) → FlushesFirst (name �
 later_first (L0 n) names first = first
 later_first (Run n) names first = none_first names first
 
+-- If no node is a flush, then no source in front of the nodes is one.
 none_in_front : (sources nodes rest : List NodeName) → after_front sources nodes ≡ Some rest → list_any is_l0 nodes ≡ false → list_any is_l0 sources ≡ false
 none_in_front [] nodes rest front none = refl
 none_in_front (x ∷ xs) [] rest front none = absurd (cc front)
@@ -213,6 +216,7 @@ none_in_front (Run a ∷ xs) (Run b ∷ ys) rest front none = by (a == b) front 
     by true more later = later more
     by false more later = absurd (cc more)
 
+-- If flushes come first among the nodes, they do so among the sources in front of them.
 first_in_front : (sources nodes rest : List NodeName) → after_front sources nodes ≡ Some rest → FlushesFirst nodes → FlushesFirst sources
 first_in_front [] nodes rest front first = tt
 first_in_front (x ∷ xs) [] rest front first = absurd (cc front)
@@ -249,6 +253,7 @@ nodes_first (Some tree) = by tree.l0
     by [] = none_first (map (λ run. Run run.id) tree.compacted) (none tree.compacted)
     by (view ∷ views) = by views
 
+-- Names without a flush are the flushes among them, and then the others.
 no_flush : (names : List NodeName) → list_any is_l0 names ≡ false → names ≡ filter is_l0 names ++ filter (λ name. not (is_l0 name)) names
 no_flush names none = sym (ap (λ l. l ++ filter (λ name. not (is_l0 name)) names) (left names none) ∙ all names none)
   where

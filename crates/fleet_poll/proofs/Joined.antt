@@ -73,6 +73,7 @@ join_horizon floor given cut None horizon id run is_joined e f same = absurd (cc
 join_horizon floor given cut (Some made) horizon id run false e f same = absurd (cc f)
 join_horizon floor given cut (Some made) horizon id run true e f same = ap (λ n. horizon_after n (model.Join id) cut horizon) (sym same)
 
+-- After a join, the poll has reached what the model's commit of the job leaves.
 pub joined_in : (flushes : RunFlushes) (input : PollInput) (poll : Poll) (state : StateParts) (steps : List Step) (committed : List ℕ) (id : ℕ) (found : Option JobParts) (run : SortedRun)
     → AreRising (own_jobs poll.state) → record_with id (own_jobs poll.state) ≡ found → ForSome found (λ job. has_status Compacted (job_of job) ≡ true)
     → ForSome found (λ job. sources_stand job.spec (own_core poll.state) ≡ true) → IfSome found (λ job. Some run ≡ joined_run job)

@@ -9,7 +9,7 @@ pub mod Drained
 pub mod Opened
 pub mod Answered
 pub mod Proposed
-pub mod Told
+pub mod MatchedTables
 pub mod Taken
 pub mod Carried
 pub mod Alike

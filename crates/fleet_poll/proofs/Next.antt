@@ -26,7 +26,7 @@ use Rattle.fleet_poll.specs.Shown.{rule_of_gate, shown}
 use Rattle.fleet_poll.specs.declared.poll.Poll.{Poll}
 use Rattle.fleet_poll.proofs.Alike.{accepted_alike}
 use Rattle.fleet_poll.proofs.StillHeld.{decides_for, held_after}
-use Rattle.fleet_poll.proofs.Taken.{ends_fit, taken_told}
+use Rattle.fleet_poll.proofs.Taken.{ends_fit, taken_matched}
 
 -- ---- what a submitted job is asked with
 
@@ -47,6 +47,7 @@ all_decide id poll nodes rising submitted kept held job e = decides_for id (own_
 
 -- ---- what is reached
 
+-- The poll has reached what the model's step 4 leaves for the job, with some account of the flushes of runs.
 pub reached_next : (flushes : RunFlushes) (input : PollInput) (s : Scheduler) (moves : Bool) (before after : Poll) (found : Option JobParts) → Sees input s before.state
     → IfSome found (λ made. accepts input (poll_of flushes before) (spec_of made.spec) ≡ accepted_on flushes (shown before.state) s (spec_of made.spec)
     → AllByRecursion (EndsFit input.tables) (taken_tables made.spec (own_core before.state))
@@ -56,7 +57,7 @@ reached_next flushes input s moves before after None sees is = tt
 reached_next flushes input s moves before after (Some made) sees is = record {
   flushes = flushes_opened (rule_of_gate input (job_of made) (poll_of flushes before)) moves made (own_core before.state) flushes;
   is = is (accepted_alike flushes input s before sees (spec_of made.spec))
-      (ends_fit input.tables (taken_tables made.spec (own_core before.state)) (taken_told input.tables made.spec (own_core before.state) sees.trees));
+      (ends_fit input.tables (taken_tables made.spec (own_core before.state)) (taken_matched input.tables made.spec (own_core before.state) sees.trees));
 }
 
 pub held_next : (id : ℕ) (before after : Poll) (nodes last : List NodeName) (found : Option JobParts) → record_with id (own_jobs before.state) ≡ found → IsSome found → AreRising (own_jobs before.state)

@@ -53,6 +53,7 @@ module _ (flushes : RunFlushes) (input : PollInput) (moves : Bool) (before after
       ∙ is
       ∙ sym (ap (λ b. cond b (drain_job input (job_of job) p) (cond (can_move input p.trees (spec_of job.spec)) (move_job input (job_of job) p) (schedule_job (job_of job) p))) drain)
 
+  -- If moves are allowed and the job's tables become a run as they are, the step is the model's move.
   pub by_move : (found : Option JobParts) → is_drain_if_there found ≡ false → moves ≡ true → input.options.moves ≡ moves → ForSome found (λ job. sources_stand job.spec (own_core before.state) ≡ true)
       → is_some (run_if_moved found (own_core before.state)) ≡ true
       → IfSome found (λ job. KeysFit input.tables (taken_tables job.spec (own_core before.state)) → poll_of (flushes_after job.spec (own_core before.state) flushes) after ≡ move_job input (job_of job) (poll_of flushes before)) → IfSome found IsOpened
@@ -67,6 +68,7 @@ module _ (flushes : RunFlushes) (input : PollInput) (moves : Bool) (before after
       ∙ sym (ap (λ b. cond b (drain_job input (job_of job) p) (cond (can_move input p.trees (spec_of job.spec)) (move_job input (job_of job) p) (schedule_job (job_of job) p))) drain
       ∙ ap (λ b. cond b (move_job input (job_of job) p) (schedule_job (job_of job) p)) can)
 
+  -- If the job is no drain and is not moved, the step is the model's: the job waits for a worker.
   pub by_schedule : (id : ℕ) (found : Option JobParts) → record_with id (own_jobs before.state) ≡ found → is_drain_if_there found ≡ false → input.options.moves ≡ moves → ForSome found (λ job. sources_stand job.spec (own_core before.state) ≡ true)
       → (moves && is_some (run_if_moved found (own_core before.state))) ≡ false
       → ((job : Job) → job.id ≡ id → poll_of flushes after ≡ schedule_job job (poll_of flushes before)) → IfSome found IsOpened

@@ -99,6 +99,7 @@ all_kept : (poll : Poll) (left : List JobParts) → LostAreOver poll → AllByRe
 all_kept poll [] over there = tt
 all_kept poll (job ∷ left) over there = (not_lost (own_jobs poll.state) poll.lost job there.0.0 there.0.1 over, all_kept poll left over there.1)
 
+-- Before the first job is opened, all submitted jobs are left, and the set has the nodes that jobs hold.
 pub opens_begin : (s : Scheduler) (moves : Bool) (initial : Poll) (held : List NodeName) → AreRising (own_jobs initial.state) → LostAreOver initial → AreHeld held (jobs_of (own_jobs initial.state)) (lost_to_scheduler initial.lost)
     → OpensOn s moves initial (filter is_submitted (own_jobs initial.state)) initial held
 opens_begin s moves initial held rising over are =

@@ -17,10 +17,11 @@ use Rattle.fleet_poll.specs.Polls.{changed_record, failed}
 use Rattle.fleet_poll.specs.declared.poll.Poll.{Poll}
 use Rattle.fleet_poll.proofs.Carried.{failed_names, changed_others, joined_others}
 use Rattle.fleet_poll.proofs.Changed.{found_has_id}
-use Rattle.fleet_poll.proofs.Told.{all_both}
+use Rattle.fleet_poll.proofs.MatchedTables.{all_both}
 
 -- ---- the record of the job
 
+-- The record of a job that fails is that of the failed job.
 failed_here : (id : ℕ) (jobs : List JobParts) → record_with id (map (changed_record failed (id ∷ [])) jobs) ≡ option_map failed (record_with id jobs)
 failed_here id [] = refl
 failed_here id (job ∷ jobs) = by (id == job.id) refl (failed_here id jobs)
@@ -37,6 +38,7 @@ failed_here id (job ∷ jobs) = by (id == job.id) refl (failed_here id jobs)
         let is = nat_eq_equiv.symm job.id id ∙ e in
         ap (λ c. cond c (Some job) (record_with id rest_after)) is ∙ rest ∙ sym (ap (λ c. option_map failed (cond c (Some job) (record_with id jobs))) is)
 
+-- A job that is put is found by its id.
 put_here : (new : JobParts) (jobs : List JobParts) → record_with new.id (put_record new jobs) ≡ Some new
 put_here new [] = ap (λ b. cond b (Some new) None) (eq-eqb new.id new.id refl)
 put_here new (job ∷ jobs) = by (nat_lt job.id new.id) refl (put_here new jobs)

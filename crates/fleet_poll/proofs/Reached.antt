@@ -94,6 +94,7 @@ new_length : (drawn : List (ℕ × CompactionSpec)) → length (new_specs drawn)
 new_length [] = refl
 new_length (d ∷ drawn) = ap suc (new_length drawn)
 
+-- One more proposal is added after those before it, at the next place.
 pub add_more : (drawn : List (ℕ × CompactionSpec)) (i : ℕ) (d : ℕ × CompactionSpec) (before now after : PollState) → i < length drawn → d ≡ get_or drawn i d
     → now ≡ add_drawn 1 (new_specs (take i drawn)) before → after ≡ add_by d.0 (i + 1) (spec_of d.1) (list_any (clashes (spec_of d.1)) now.jobs) now
     → after ≡ add_drawn 1 (new_specs (take (i + 1) drawn)) before
@@ -179,6 +180,7 @@ refused_in flushes poll state refused id other rule same objects jobs more =
     ap {A = PollState} {B = PollState} (λ p. record p { refused = refused }) (failed_in flushes poll state id other same objects jobs)
     ∙ ap (λ xs. record (poll_of flushes poll) { jobs = changed_jobs to_failed (other ∷ []) (jobs_of (own_jobs poll.state)); refused = xs }) (more ∙ ap (λ i. poll.refused ++ (i, rule) ∷ []) (sym same))
 
+-- After a job is opened, the poll has reached what the model's step leaves: the job waits, and is listed.
 pub scheduled_in : (flushes : RunFlushes) (poll : Poll) (state : StateParts) (made : List ℕ) (id other : ℕ) → other ≡ id → HasSameObjects poll.state state
     → own_jobs state ≡ map (changed_record (opened (trees_of flushes poll.state.manifest.manifest.core)) (id ∷ [])) (own_jobs poll.state) → made ≡ poll.opened ++ id ∷ []
     → poll_of flushes (record poll { state = state; opened = made }) ≡ record (poll_of flushes poll) {

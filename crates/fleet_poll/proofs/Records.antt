@@ -104,6 +104,7 @@ pub none_freed : (jobs : List JobParts) → jobs ≡ map (changed_record waiting
 none_freed [] = refl
 none_freed (job ∷ jobs) = ap (λ js. job ∷ js) (none_freed jobs)
 
+-- To free these jobs and one more is to free them, and then the one.
 freed_once : (ids : List ℕ) (id : ℕ) (job : JobParts) → changed_record waiting (ids ++ id ∷ []) job ≡ changed_record waiting (id ∷ []) (changed_record waiting ids job)
 freed_once ids id job = ap (λ b. cond b (waiting job) job) (contains_more ids id job.id) ∙ by (contains ids job.id)
   where

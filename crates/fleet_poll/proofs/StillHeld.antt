@@ -95,6 +95,7 @@ found_model id (job ∷ jobs) = by (job.id == id) (found_model id jobs)
     by true rest = refl
     by false rest = rest
 
+-- The job with the id is found changed.
 found_changed : (change : Job → Job) (id : ℕ) (jobs : Jobs) → ((job : Job) → (change job).id ≡ job.id) → found_in id (changed_jobs change (id ∷ []) jobs) ≡ option_map change (found_in id jobs)
 found_changed change id [] same = refl
 found_changed change id (job ∷ jobs) same = by (id == job.id) (job.id == id) refl (nat_eq_equiv.symm job.id id) (found_changed change id jobs same)
@@ -153,6 +154,7 @@ reserved_are (job ∷ jobs) = by (reserves_nodes (job_of job)) (reserved_are job
 pub held_at_first : (jobs : List JobParts) (nodes : List NodeName) → nodes ≡ flat_map (λ job. nodes_held (Some (job_of job))) jobs → AreHeld nodes (jobs_of jobs) []
 held_at_first jobs nodes is = subst (λ ns. AreHeld ns (jobs_of jobs) []) (sym (is ∙ reserved_are jobs)) (λ name. refl)
 
+-- A job that is lost last is lost to the scheduler exactly if its rule is 0.
 lost_last : (lost : List (ℕ × ℕ)) (id rule : ℕ) → lost_to_scheduler (lost ++ (id, rule) ∷ []) ≡ lost_to_scheduler lost ++ cond (rule == 0) (id ∷ []) []
 lost_last [] id rule = by (rule == 0)
   where

@@ -61,6 +61,7 @@ module _ (store : Store) (range : Range) where
       by true = of_found (held_rows view.sst.id store) ∙ held_are store view.sst.id held.held
       by false = refl
 
+  -- The rows of the tables that meet the range are those of the views that are kept.
   views_flat : (views : List View) → AreHeldViews store views → source_rows (view_tables store range views) ≡ flat_map rows_at (kept views)
   views_flat [] all = refl
   views_flat (view ∷ views) all =

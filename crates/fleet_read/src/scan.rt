@@ -40,7 +40,7 @@ fn segment_sources(
 /// moment `now`, over the tables that the store's manifest names. It looks at the store, and calls
 /// nothing. The page has at most `limit` pairs, and ends at the first refusal. A scan below the
 /// horizon or before the tick is not answered. A table whose keys lie outside of the range costs two
-/// comparisons, and no row is decoded that lies behind the first key after the page.
+/// comparisons, and no row is decoded that comes after the first key past the page.
 pub fn scan_stored<O: MergeOperator>(
     alloc: Global,
     store: &MemStore,

@@ -12,7 +12,7 @@ use Rattle.std.specs.declared.cmp.Ordering.TheVariants.{Less, Equal, Greater}
 abbrev pub AreBytes : List ℕ → Type 0
 AreBytes xs = (i : ℕ) → get_or xs i 0 < 256
 
--- Behind a lesser number, as many bytes spell a lesser number.
+-- After a lesser number, as many bytes spell a lesser number.
 rises : (a b : ℕ) (us vs : List ℕ) → length us ≡ length vs → AreBytes us → a < b → big_endian a us < big_endian b vs
 rises a b [] [] long small lt = lt
 rises a b [] (v ∷ vs) long small lt = absurd (omega (arith, long))
@@ -30,27 +30,28 @@ spelt_order a (u ∷ us) [] xs ys long small low = absurd (omega (arith, long))
 spelt_order a (u ∷ us) (v ∷ vs) xs ys long small low =
     by (nat_cmp u v) refl (spelt_order (a * 256 + u) us vs xs ys (omega (arith, long)) (λ i. small (suc i)) (λ i. low (suc i)))
   where
-    behind : Ordering
-    behind = slice_cmp nat_cmp xs ys
+    following : Ordering
+    following = slice_cmp nat_cmp xs ys
 
     rest : Ordering
     rest = slice_cmp nat_cmp (us ++ xs) (vs ++ ys)
 
-    by : (o : Ordering) → o ≡ nat_cmp u v → rest ≡ ordering_then (nat_cmp (big_endian (a * 256 + u) us) (big_endian (a * 256 + u) vs)) behind
-        → ordering_then (nat_cmp u v) rest ≡ ordering_then (nat_cmp (big_endian (a * 256 + u) us) (big_endian (a * 256 + v) vs)) behind
+    by : (o : Ordering) → o ≡ nat_cmp u v → rest ≡ ordering_then (nat_cmp (big_endian (a * 256 + u) us) (big_endian (a * 256 + u) vs)) following
+        → ordering_then (nat_cmp u v) rest ≡ ordering_then (nat_cmp (big_endian (a * 256 + u) us) (big_endian (a * 256 + v) vs)) following
     by Less is same =
         let lt : u < v = ranked u v Less is in
         ap (λ o. ordering_then o rest) (sym is)
-        ∙ ap (λ o. ordering_then o behind) (nat_cmp_is _ _ Less (rises (a * 256 + u) (a * 256 + v) us vs (omega (arith, long)) (λ i. small (suc i)) (omega (arith, lt))))
+        ∙ ap (λ o. ordering_then o following) (nat_cmp_is _ _ Less (rises (a * 256 + u) (a * 256 + v) us vs (omega (arith, long)) (λ i. small (suc i)) (omega (arith, lt))))
     by Equal is same =
         let level : u ≡ v = ranked u v Equal is in
         ap (λ o. ordering_then o rest) (sym is)
-        ∙ subst (λ w. rest ≡ ordering_then (nat_cmp (big_endian (a * 256 + u) us) (big_endian (a * 256 + w) vs)) behind) level same
+        ∙ subst (λ w. rest ≡ ordering_then (nat_cmp (big_endian (a * 256 + u) us) (big_endian (a * 256 + w) vs)) following) level same
     by Greater is same =
         let gt : v < u = ranked u v Greater is in
         ap (λ o. ordering_then o rest) (sym is)
-        ∙ ap (λ o. ordering_then o behind) (nat_cmp_is _ _ Greater (rises (a * 256 + v) (a * 256 + u) vs us (omega (arith, long)) (λ i. low (suc i)) (omega (arith, gt))))
+        ∙ ap (λ o. ordering_then o following) (nat_cmp_is _ _ Greater (rises (a * 256 + v) (a * 256 + u) vs us (omega (arith, long)) (λ i. low (suc i)) (omega (arith, gt))))
 
+-- Eight bytes as a word are the number that they spell, the first byte first.
 spelt_8 : (bs : List ℕ) → length bs ≡ 8 → from_be_bytes w64 bs ≡ big_endian 0 bs
 spelt_8 [] long = absurd (omega (arith, long))
 spelt_8 (a ∷ []) long = absurd (omega (arith, long))
@@ -78,24 +79,24 @@ words_decide : (xs ys us vs : List ℕ) (x y : ℕ) → AreBytes xs → AreBytes
 words_decide xs ys us vs x y small low long far first other word next =
     let here : length (take 8 xs) ≡ 8 = length-take-le 8 xs long in
     let there : length (take 8 ys) ≡ 8 = length-take-le 8 ys far in
-    let behind = slice_cmp nat_cmp (drop 8 xs) (drop 8 ys) in
+    let following = slice_cmp nat_cmp (drop 8 xs) (drop 8 ys) in
     let one : x ≡ big_endian 0 (take 8 xs) = word ∙ ap (from_be_bytes w64) first ∙ spelt_8 (take 8 xs) here in
     let two : y ≡ big_endian 0 (take 8 ys) = next ∙ ap (from_be_bytes w64) other ∙ spelt_8 (take 8 ys) there in
     sym (ap (λ w. slice_cmp nat_cmp w (take 8 ys ++ drop 8 ys)) (take-append-drop 8 xs) ∙ ap (slice_cmp nat_cmp xs) (take-append-drop 8 ys))
     ∙ (spelt_order 0 (take 8 xs) (take 8 ys) (drop 8 xs) (drop 8 ys) (here ∙ sym there) (first_bytes 8 xs small) (first_bytes 8 ys low)
-    ∙ (ap (λ n. ordering_then (nat_cmp n (big_endian 0 (take 8 ys))) behind) (sym one) ∙ ap (λ n. ordering_then (nat_cmp x n) behind) (sym two)))
+    ∙ (ap (λ n. ordering_then (nat_cmp n (big_endian 0 (take 8 ys))) following) (sym one) ∙ ap (λ n. ordering_then (nat_cmp x n) following) (sym two)))
 
 -- The answer where two words differ.
-words_apart : (x y : ℕ) (behind : Ordering) → x ≢ y → nat_cmp x y ≡ ordering_then (nat_cmp x y) behind
-words_apart x y behind far = by (nat_cmp x y) refl
+words_apart : (x y : ℕ) (following : Ordering) → x ≢ y → nat_cmp x y ≡ ordering_then (nat_cmp x y) following
+words_apart x y following far = by (nat_cmp x y) refl
   where
-    by : (o : Ordering) → o ≡ nat_cmp x y → o ≡ ordering_then o behind
+    by : (o : Ordering) → o ≡ nat_cmp x y → o ≡ ordering_then o following
     by Less is = refl
     by Equal is = absurd (far (ranked x y Equal is))
     by Greater is = refl
 
-words_level : (x y : ℕ) (behind : Ordering) → x ≡ y → ordering_then (nat_cmp x y) behind ≡ behind
-words_level x y behind level = ap (λ o. ordering_then o behind) (sym (nat_cmp_is x y Equal level))
+words_level : (x y : ℕ) (following : Ordering) → x ≡ y → ordering_then (nat_cmp x y) following ≡ following
+words_level x y following level = ap (λ o. ordering_then o following) (sym (nat_cmp_is x y Equal level))
 
 -- What is left of two keys from which some bytes were taken, as long as all of these were equal.
 pub record AreLeft (key other rest other_rest : List ℕ) : Type 0 where

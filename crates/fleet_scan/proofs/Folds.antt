@@ -14,7 +14,7 @@ merged_is (Some (Refused message)) value h = absurd h
 pub refused_is : (folded : Option Outcome) (message : List ℕ) → AnswersBatch folded (Err (Callback message)) → folded ≡ Some (Refused message)
 refused_is None message h = absurd h
 refused_is (Some (Merged bytes)) message h = absurd h
-refused_is (Some (Refused told)) message h = ap (λ m. Some (Refused m)) (sym h)
+refused_is (Some (Refused reason)) message h = ap (λ m. Some (Refused m)) (sym h)
 
 empty_is : (folded : Option Outcome) → AnswersBatch folded (Err EmptyBatch) → folded ≡ None
 empty_is None h = refl

@@ -33,6 +33,7 @@ record Deleted (ids : List ℕ) (old new : Store) : Type 0 where
   records : new.records ≡ old.records
   tables : new.tables ≡ old.tables
 
+-- Deletions one after the other delete these tables, and the answer is as given.
 each_deleted : (who : Caller) (ids tables answer : List ℕ) (old new : World) (waits left : Option Fault) → who.alone ≡ true → Ran who (deletes_each ids (Ends tables)) old new waits left (Gives answer)
     → (answer ≡ tables) × Deleted ids old.store new.store
 each_deleted who [] tables answer old new waits left alone (same, (waited, ends)) =
@@ -49,6 +50,7 @@ each_deleted who (id ∷ ids) tables answer old new waits left alone ran =
       },
     )
 
+-- A sweep that is alone and answers has deleted exactly the tables that nothing can need.
 swept_by : (who : Caller) (pins answer : List ℕ) (old new : World) (waits left : Option Fault) → who.alone ≡ true → Ran who (sweep pins) old new waits left (Gives answer) → IsSwept pins answer old.store new.store
 unfolding sweep
 swept_by who pins answer old new waits left alone ran =

@@ -41,6 +41,7 @@ digit_read : (c i : ℕ) (o : Option ℕ) (v : ℕ) → digit_or_error c i o ≡
 digit_read c i (Some w) v h = ap Some (ap (λ (r : Result ℕ FromHexError). result_unwrap_or r 0) h)
 digit_read c i None v h = cc h
 
+-- A word of lower-case digits that is read as bytes is the spelling of these bytes.
 encoded_pairs : (i : ℕ) (s bytes : List ℕ) → list_all is_lower_digit s ≡ true → decode_pairs i s ≡ Ok bytes → s ≡ encode_lower bytes
 unfolding decode_pairs encode_with
 encoded_pairs i [] bytes lower h =

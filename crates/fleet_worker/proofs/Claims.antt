@@ -72,6 +72,7 @@ jobs_run : (xs : List AttemptParts) → attempt_jobs (map attempt_of xs) ≡ par
 jobs_run [] = refl
 jobs_run (a ∷ xs) = ap (λ js. a.job ∷ js) (jobs_run xs)
 
+-- What the claim takes and stops is its choice by the worker's own release and attempts.
 pub is_choice : (options : CompactionWorkerOptions) (w : WorkerParts) (jobs all seen claimed : List JobParts) (stopped one two : List ℕ) (release : Release) → release ≡ w.release → one ≡ part_jobs w.attempts → two ≡ part_jobs w.attempts → all ≡ jobs → seen ≡ jobs → AreRising all
     → AreClaimed options.max_concurrent_compactions one release all claimed → AreStopped two seen stopped → IsChoice options w jobs claimed stopped
 is_choice options w jobs all seen claimed stopped one two release of_release of_one of_two of_all of_seen rising taken stops = record {

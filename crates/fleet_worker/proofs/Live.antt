@@ -16,7 +16,7 @@ looked id (job ∷ jobs) = ap (λ b. cond b (Some (job_of job)) (job_with id (jo
     by true rest = refl
     by false rest = rest
 
--- Whether an attempt is live is world by the job that was found.
+-- Whether an attempt is live is seen from the job that was found alone.
 pub found_live : (jobs : List JobParts) (worker id number : ℕ) (a : AttemptParts) (found : Option JobParts) → id ≡ a.job → number ≡ a.number → found ≡ record_with id jobs
     → runs_attempt worker number (option_map job_of found) ≡ is_live (jobs_of jobs) worker (attempt_of a)
 found_live jobs worker id number a found at one is = rw (is, at, one) (ap (runs_attempt worker a.number) (sym (looked a.job jobs)))

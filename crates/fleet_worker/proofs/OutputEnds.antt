@@ -186,9 +186,9 @@ module _ (moment : ℕ) (w : WorkerParts) (job place rows : ℕ) (old new : Stor
       (noted_then moment w place rows old new ran.attempt ran.part merges ready run ran.at (Ok None) w.attempts ran.ran)
 
   -- A table was written.
-  module _ (table : SsTableHandle) (attempts : List AttemptParts) (told : IsTold w job place new table attempts) (out : Outputs (Ok (Some (table, attempts)))) where
+  module _ (table : SsTableHandle) (attempts : List AttemptParts) (noted_so : IsTold w job place new table attempts) (out : Outputs (Ok (Some (table, attempts)))) where
     attempts_are : after_noting place table out.attempt w.attempts ≡ attempts
-    attempts_are = ap (λ a. after_noting place table a w.attempts) (one_run w.attempts job out.attempt told.attempt out.runs told.runs) ∙ sym told.noted
+    attempts_are = ap (λ a. after_noting place table a w.attempts) (one_run w.attempts job out.attempt noted_so.attempt out.runs noted_so.runs) ∙ sym noted_so.noted
 
     pub some_ran : RanSo attempts (Ok (Some table))
     some_ran = record {
@@ -207,7 +207,7 @@ module _ (moment : ℕ) (w : WorkerParts) (job place rows : ℕ) (old new : Stor
         let run = run_here w.attempts job out.attempt out.runs in
         let noted = noted_then moment w place rows old new out.attempt out.part merges ready run out.at (Ok (Some table)) attempts some_ran.ran in
         ready_then moment w place rows old new out.attempt out.part merges ready run out.at (Ok (Some table)) attempts some_ran.ran stopped is refl
-        (subst (λ next. AreNoted next new.world.store) attempts_are (more_noted new.world.store place table out.attempt told.described w.attempts run noted))
+        (subst (λ next. AreNoted next new.world.store) attempts_are (more_noted new.world.store place table out.attempt noted_so.described w.attempts run noted))
 
   -- An error.
   module _ (e : SlateDBError) (out : Outputs (Err e)) where

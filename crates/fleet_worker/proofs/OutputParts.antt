@@ -123,10 +123,10 @@ module _ (moment : ℕ) (w : WorkerParts) (job place rows : ℕ) (old new : Stor
   -- A table was written.
   pub some_exit : (table : SsTableHandle) (attempts : List AttemptParts) → result ≡ Ok (Some (table, attempts)) → Exit attempts (Ok (Some table))
   some_exit table attempts e =
-      let told = subst (IsAnswered w job place new) e answered in
+      let noted_so = subst (IsAnswered w job place new) e answered in
       let ran = out_at (Ok (Some (table, attempts))) e in (
-        some_ran moment w job place rows old new merges ready stopped table attempts told ran,
-        some_ready moment w job place rows old new merges ready stopped table attempts told ran (is ∙ ap stops e),
+        some_ran moment w job place rows old new merges ready stopped table attempts noted_so ran,
+        some_ready moment w job place rows old new merges ready stopped table attempts noted_so ran (is ∙ ap stops e),
       )
 
   -- An error.

@@ -82,6 +82,7 @@ data Cause (e : SlateDBError) : Type 0 where
   OfOperator : (cause : MergeOperatorError) → e ≡ error.MergeOperator cause → Cause e
   Other : e ≢ error.Memory → ((message : List ℕ) → e ≢ error.MergeOperator (merge_error.Callback message)) → Cause e
 
+-- Each error is a fault, out of memory, a refusal of the operator, or another one.
 cause_of : (e : SlateDBError) → Cause e
 cause_of error.Memory = OfMemory refl
 cause_of (error.MergeOperator cause) = OfOperator cause refl

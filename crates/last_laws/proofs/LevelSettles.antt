@@ -121,6 +121,7 @@ module _ (o : LevelOptions) (allowed : are_allowed o ≡ true) (most : ℕ) (mer
       let done = poll_commits input (λ p spec. ap (λ (s : Scheduler). s.validate (view_of input p) spec) c.asks) calm (subst NodesHeldOnce (sym got) c.stored.held_once) in
       (done.added, done.refused)
 
+  -- The poll's store meets the invariant, and the sources of its Compacted jobs stand.
   stands : PollStands merge input
   stands = record {
     store = store;
@@ -199,6 +200,7 @@ levels_settle o allowed most some = record {
   passes = λ merge ask store drawn c. refuses_none o allowed most merge ask store drawn c;
 }
 
+-- The law: a settle line with the levelled scheduler settles in so many rounds.
 pub level_lines_settle : LevelLinesSettle
 level_lines_settle inputs o most old coordinator worker rounds answer new h =
     let count = weights_count old.store.manifest.trees in

@@ -108,6 +108,7 @@ ran_before = record {
   had_room = omega arith;
 }
 
+-- The worked settle line meets each premise of the law, by computing.
 pub worked_settling : WorkedSettling
 unfolding digits encode_with planned_ranges committed_poll start poll claim heartbeat release_all output end_job finish submit submit_request flush sweep course_of level_picks
 worked_settling = record {

@@ -45,6 +45,7 @@ same_stands : (event : Event) (fault : Option Fault) → does_stand (waiting_aft
 same_stands event None = refl
 same_stands event (Some fault) = refl
 
+-- A run that is alone ends as its course does, or at the call that the waiting fault strikes.
 pub run_ends : {A : Type 0} (line : ℕ) (party : Party) (course : Course A) (fault : Option Fault) (store : Store) (P : A → Store → Type 0) → EndsSo line party course store P → RunEnds line party (does_stand fault) course store P (run_alone line party course fault store)
 run_ends line party (Ends answer) fault store P so = RunEnded answer refl so
 run_ends {A} line party (Calls x next) fault store P so = by (strikes (event_of x store) fault) (run_ends line party (next store) (waiting_after (event_of x store) fault) (after_answered line party x store) P so)

@@ -83,6 +83,7 @@ goes_noting attempts a place table there = record { before = a; there = there; n
 subset_goes : (w : LiveWorker) (some : List Attempt) → ((a : Attempt) → IsIn a w.attempts → attempt_at a.job w.attempts ≡ Some a) → ((a : Attempt) → IsIn a some → IsIn a w.attempts) → AllByRecursion (GoesOn w.attempts) some
 subset_goes w some at among = all_from (GoesOn w.attempts) some (λ a there. goes_self w.attempts a (at a (among a there)))
 
+-- An attempt among those after one was put is this one, or one of those before.
 put_from : (x a : Attempt) (attempts : List Attempt) → IsIn x (put_attempt a attempts) → (a ≡ x) ⊎ IsIn x attempts
 put_from x a [] (inl same) = inl same
 put_from x a [] (inr there) = absurd there
@@ -246,6 +247,7 @@ put_stays : (b : Bool) (store put : Store) → put.manifest ≡ store.manifest �
 put_stays true store put m t = (m, t)
 put_stays false store put m t = (refl, refl)
 
+-- A claim of these jobs begins attempts at them alone, and keeps the other ones of the worker.
 claim_of_begins : (line : ℕ) (party : Party) (s : State) (w : LiveWorker) (got : Records) (jobs : Jobs) (stopped : List ℕ) (again : ℕ → Course (StepEnd Claimed)) (store : Store) → store.manifest ≡ s.store.manifest → store.tables ≡ s.store.tables → store.records ≡ Some got → jobs ≡ taken_in s w
     → EndsSo line party (claim_of (worker_options s.options) s.moment w got jobs stopped again) store (Begins s w)
 claim_of_begins line party s w got [] stopped again store m t stored are = left_old s w stopped
@@ -261,6 +263,7 @@ claim_of_begins line party s w got (job ∷ jobs) stopped again store m t stored
     (started_begins line party s w (input left.manifest left.tables) these stopped (after_answered line party (Plain GetManifest) left)
     (ap (λ (manifest : Manifest). input manifest left.tables) (stay.0 ∙ m) ∙ ap (λ (tables : Tables). input s.store.manifest tables) (stay.1 ∙ t)) are)
 
+-- So does a claim over what is stored.
 claim_begins : (line : ℕ) (party : Party) (s : State) (w : LiveWorker) → EndsSo line party (claim (worker_options s.options) s.moment w) s.store (Begins s w)
 unfolding claim
 claim_begins line party s w = by s.store.records refl
@@ -361,6 +364,7 @@ output_goes merge s k n job p place (Some table) live =
     by b (inl same) = subst (GoesOn p.0.attempts) same (goes_noting p.0.attempts p.1 place table.0 (is_attempt merge s k n job p live).runs)
     by b (inr there) = goes_self p.0.attempts b (own_attempts merge s k n p.0 (job_worker s n job p live) b (in_filtered (λ (c : Attempt). not (contains (p.1.job ∷ []) c.job)) p.0.attempts b there))
 
+-- After an output, each attempt that a worker runs went on.
 output_fits : (inputs : Inputs) (number n m job place rows : ℕ) (refusal : Option (List ℕ)) (s : State) (k : StateKeeps inputs.merge s) (answer : List ℕ) (new : State) (o : Option (LiveWorker × Attempt × (Range × List ℕ))) → range_at s m job place ≡ o
     → run_line number s (if_some o (no_such_party s) (λ found. output_line inputs s (output_asked s place rows refusal found))) ≡ (answer, new) → Fits (Output m job place rows) n s new.parties
 output_fits inputs number n m job place rows refusal s k answer new None e is = reply_fits inputs.merge number (Output m job place rows) n s _ answer new k is
@@ -373,6 +377,7 @@ output_fits inputs number n m job place rows refusal s k answer new (Some q) e i
     work_fits inputs.merge number (Output m job place rows) n m s k w (output inputs.merge s.store.tables ask) (λ r. output_reply r.table) (λ r. r.attempts) (without_attempt w a) (Outputs inputs.merge s.store.tables ask s.store) answer new live (output_left number (Worker w.number) inputs.merge s.store.tables ask s.store)
     (λ report left p. subst (AllByRecursion (GoesOn w.attempts)) (sym p.attempts) (output_goes inputs.merge s k m job (w, a) place report.table ran)) (some_goes inputs.merge s k m w live (λ (b : Attempt). not (contains (a.job ∷ []) b.job))) is
 
+-- So it is after a finish.
 finish_fits : (inputs : Inputs) (number n m job : ℕ) (refusal : Option (List ℕ)) (s : State) (k : StateKeeps inputs.merge s) (answer : List ℕ) (new : State) (o : Option (LiveWorker × Attempt)) → job_at s m job ≡ o
     → run_line number s (if_some o (no_such_party s) (λ found. finish_line inputs s (finish_asked s refusal found))) ≡ (answer, new) → Fits (FinishJob m job) n s new.parties
 finish_fits inputs number n m job refusal s k answer new None e is = reply_fits inputs.merge number (FinishJob m job) n s _ answer new k is
@@ -424,6 +429,7 @@ sweep_fits merge number n s k answer new is =
 said_fits : (merge : Operator) (line : Line) (n : ℕ) (old : State) (k : StateKeeps merge old) (number : ℕ) (s : State) (said answer : List ℕ) (new : State) → s.parties ≡ old.parties → run_line number s (only_replies s said) ≡ (answer, new) → Fits line n old new.parties
 said_fits merge line n old k number s said answer new same is = subst (Fits line n old) (sym same ∙ ap (λ (p : List ℕ × State). p.1.parties) is) (fits_same merge line n old k old.parties refl)
 
+-- After the course of each line, each attempt that a worker runs went on, or the worker's claim began it.
 course_fits : (inputs : Inputs) (number : ℕ) (line : Line) (n : ℕ) (refusal : Option (List ℕ)) (old : State) (k : StateKeeps inputs.merge old) (answer : List ℕ) (new : State)
     → let s = prepared_state line old in run_line number s (course_of inputs line refusal s) ≡ (answer, new) → Fits line n old new.parties
 unfolding course_of

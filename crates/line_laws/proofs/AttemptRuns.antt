@@ -93,6 +93,7 @@ record Kept (n : ℕ) (a : Attempt) (s : State) : Type 0 where
   stays : Stays n a s
   claimed : Claimed n a s
 
+-- What a claim gave an attempt, the attempt has after the course of a line, if the worker still runs it.
 course_kept : (inputs : Inputs) (old : State) (line : Line) (answer : List ℕ) (new : State) (n : ℕ) (a : Attempt) → CourseRan inputs old line answer new → Kept n a old → Kept n a new
 course_kept inputs old line answer new n a ran kept =
     let went = goes_on inputs ran.number old line answer new ran in

@@ -69,6 +69,7 @@ idle_report : (w : LiveWorker) (xs : List Attempt) (jobs : Jobs) → xs ≡ w.at
 idle_report w [] jobs are none = ap (λ (ys : List Attempt). beat_report (record w { attempts = ys }) []) (sym are) ∙ ap (λ (ys : List Attempt). beat_report (record w { attempts = ys }) jobs) are
 idle_report w (a ∷ xs) jobs are none = absurd (cc none)
 
+-- A heartbeat that is alone reports the beats of the stored records, and leaves the leases that it renewed.
 pub beat_left : (line : ℕ) (party : Party) (moment : ℕ) (w : LiveWorker) (store : Store) → EndsSo line party (heartbeat moment w) store (Beats moment w store)
 unfolding heartbeat
 beat_left line party moment w store = either (is_nonempty w.attempts) refl
@@ -141,6 +142,7 @@ Releases w old end left = ⊤
 abbrev gives : List ℕ → Course (StepEnd (List ℕ))
 gives released = Ends (Reports released)
 
+-- A release of these attempts, which are live by the records, leaves their jobs to wait.
 release_live_left : (line : ℕ) (party : Party) (w : LiveWorker) (got : Records) (live : List Attempt) (again : ℕ → Course (StepEnd (List ℕ))) (old store : Store) → IsLike old store → store.records ≡ Some got → stored_jobs old ≡ got.jobs → live ≡ live_attempts got.jobs w
     → EndsSo line party (release_live w got live gives again) store (Releases w old)
 release_live_left line party w got [] again old store like stored jobs live = record {
@@ -157,6 +159,7 @@ release_live_left line party w got (a ∷ live) again old store like stored jobs
       same = left.same;
     })
 
+-- So a release of all attempts gives exactly the live ones back.
 release_left : (line : ℕ) (party : Party) (w : LiveWorker) (store : Store) → EndsSo line party (release_all w) store (Releases w store)
 unfolding release_all
 release_left line party w store = either (is_nonempty w.attempts) refl

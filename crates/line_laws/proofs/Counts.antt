@@ -95,6 +95,7 @@ finished_named merge world kept =
 
 -- ---- statuses
 
+-- A job whose status is neither Compacted nor a finished one is not past its work.
 open_status : (a : Status) (job : Job) → status_eq a job.status ≡ true → (status_eq Compacted a || is_finished a) ≡ false → is_past_work job ≡ false
 open_status a job is other = by a job.status is other
   where
@@ -205,6 +206,7 @@ module _ (merge : Operator) (party : Party) (world : World) (u : Unrecorded) (ke
 
   -- ---- a finish
 
+  -- A finish of a job that is not past its work adds the job to the finished ones, each of which is counted once.
   finish_change : (worker id attempt : ℕ) (outputs : List (List ℕ)) → IsOpen id → AreCounted (finished ++ id ∷ []) committed (trimmed_jobs (changed_jobs (finished_by worker u outputs) (id ∷ []) stored))
   finish_change worker id attempt outputs free = record {
     finished_once = pairs_push (λ a b. a ≢ b) finished id counted.finished_once (all_from (λ a. a ≢ id) finished (λ a there same. never (subst (λ (n : ℕ). IsTrue (contains finished n)) same (in_contains finished a there))));

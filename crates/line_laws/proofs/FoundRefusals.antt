@@ -34,6 +34,7 @@ chunks_have P joins (r ∷ rows) have = put (chunk_by joins rows) (chunks_have P
 abbrev OneKey : Chunk Row → Type 0
 OneKey g = AllByRecursion (λ (r : Row). r.key ≡ g.0.key) (elements g)
 
+-- Each chunk of rows with the same key has one key.
 one_key : (rows : List Row) → AllByRecursion OneKey (chunk_by same_key rows)
 one_key [] = tt
 one_key (r ∷ rows) = put (chunk_by same_key rows) (one_key rows)

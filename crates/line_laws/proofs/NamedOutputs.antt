@@ -53,6 +53,7 @@ new_have named (p ∷ specs) jobs all = new_have named specs (put_job (new_job p
 abbrev with_change : RecordChange → Named → Named
 with_change change named id = unwrap_or (finished_with id (PutRecords change)) (named id)
 
+-- After a finish the history names the outputs of its job, and those of the other jobs as before.
 finish_have : (named : Named) (unrecorded : Unrecorded) (worker id attempt : ℕ) (outputs : List (List ℕ)) (jobs : Jobs) → AllByRecursion (HasNamed named) jobs
     → AllByRecursion (HasNamed (with_change (Finish worker id attempt outputs) named)) (changed_jobs (finished_by worker unrecorded outputs) (id ∷ []) jobs)
 finish_have named unrecorded worker id attempt outputs jobs all =
@@ -66,6 +67,7 @@ finish_have named unrecorded worker id attempt outputs jobs all =
     other job true e = absurd (cc e)
     other job false e = refl
 
+-- So it is after each change of the records.
 change_have : (named : Named) (unrecorded : Unrecorded) (change : RecordChange) (jobs : Jobs) → AllByRecursion (HasNamed named) jobs → AllByRecursion (HasNamed (with_change change named)) (after_change unrecorded change jobs)
 change_have named unrecorded (RecordsEpoch epoch) jobs all = all
 change_have named unrecorded (Submit specs) jobs all = new_have named specs jobs all

@@ -39,6 +39,7 @@ abbrev pub Outputs : Operator → Tables → OutputAsk → Store → StepEnd Wri
 Outputs merge tables ask old (Reports report) left = OutputLeft merge tables ask old report left
 Outputs merge tables ask old end left = ⊤
 
+-- An output of these rows puts them as a table, reports it, and notes it for the range.
 writes_left : (line : ℕ) (party : Party) (merge : Operator) (tables : Tables) (ask : OutputAsk) (rows : List Row) (old store : Store) → IsLike old store → rows ≡ rows_written merge tables ask → EndsSo line party (writes ask rows) store (Outputs merge tables ask old)
 writes_left line party merge tables ask [] old store like same = record {
   has = same;

@@ -49,6 +49,7 @@ pub data LineEnded (number : ℕ) (s : State) (c : LineCourse) (P : LineEnd → 
   LineStruck : answer ≡ reply (codes "storefault" ∷ []) → StruckIn number c.party (does_stand s.fault) c.course s.store new.store → new.parties ≡ c.struck → new.fault ≡ None → LineEnded number s c P answer new
   LineEnds : (end : LineEnd) → answer ≡ end.reply → new.parties ≡ end.parties → P end new.store → LineEnded number s c P answer new
 
+-- The line's reply and state are those of an end of its course that nobody disturbs, or a fault struck it.
 pub line_ended : (number : ℕ) (s : State) (c : LineCourse) (P : LineEnd → Store → Type 0) (answer : List ℕ) (new : State) → EndsSo number c.party c.course s.store P → run_line number s c ≡ (answer, new) → LineEnded number s c P answer new
 line_ended number s c P answer new so is = by (run_alone number c.party c.course s.fault s.store) (run_ends number c.party c.course s.fault s.store P so) is
   where
@@ -198,6 +199,7 @@ work_replies number line n s step spell reported answer new same so okay None e 
 work_replies number line n s step spell reported answer new same so okay (Some w) e is =
     noted_replies number line s (Worker w.number) (step w) (λ end. []) spell (λ report. running w s (reported report)) (running w s w.attempts) (without_worker w.number s.parties) answer new (gone_worker n w.number s (worker_number n s w e) ∙ sym same) (so w) is okay
 
+-- A poll or a commit replies as it may: it is done, has no coordinator, is struck, or is fenced.
 poll_replies : (inputs : Inputs) (number : ℕ) (line : Line) (commits_only : Bool) (spell : PollState → List ℕ) (n : ℕ) (s : State) (answer : List ℕ) (new : State) → struck_parties line s ≡ without_coordinator n s.parties
     → ((stored : ℕ) → answer ≡ reply (codes "fenced" ∷ decimal stored ∷ []) → new.parties ≡ without_coordinator n s.parties → PollEnds {A = PollState} s.store (Fenced stored) new.store → RefusedSo line s answer new) → ((report : PollState) → is_ok (spell report) ≡ true)
     → run_line number s (polls commits_only spell inputs n s) ≡ (answer, new) → Replied number line (polls commits_only spell inputs n s) s answer new
@@ -220,6 +222,7 @@ poll_replies inputs number line commits_only spell n s answer new same fenced ok
 
 -- ---- flushes and submissions
 
+-- A flush replies as it may: it is done, is struck, or has one of the six faults.
 flush_replies : (inputs : Inputs) (number name : ℕ) (segment : List ℕ) (floor : ℕ) (tick : ℤ) (rows : List Row) (s : State) (answer : List ℕ) (new : State) → run_line number s (flush_line name segment floor tick rows s) ≡ (answer, new)
     → Replied number (FlushRows name segment floor tick rows) (flush_line name segment floor tick rows s) s answer new
 flush_replies inputs number name segment floor tick rows s answer new is =
@@ -235,6 +238,7 @@ flush_replies inputs number name segment floor tick rows s answer new is =
     handle (BadFlush fault) printed parties p = IsRefused (record { fault = fault; printed = printed; store = p; parties = parties })
     handle end printed parties p = absurd p
 
+-- A submission or a drain replies as it may: it is done, is struck, or there are no records.
 submit_replies : (number : ℕ) (line : Line) (spec : JobSpec) (s : State) (answer : List ℕ) (new : State) → s.parties ≡ struck_parties line s → (SubmitRefused s answer new → RefusedSo line s answer new) → run_line number s (submit_line spec s) ≡ (answer, new)
     → Replied number line (submit_line spec s) s answer new
 submit_replies number line spec s answer new same refuses is =
@@ -248,6 +252,7 @@ submit_replies number line spec s answer new same refuses is =
     handle NoRecords printed parties p = IsRefused (refuses (record { printed = printed; store = p; parties = parties }))
     handle end printed parties p = absurd p
 
+-- A request replies as it may: it is done, is struck, there are no records, or the scheduler refuses it.
 full_replies : (inputs : Inputs) (number : ℕ) (segment : Option (List ℕ)) (s : State) (answer : List ℕ) (new : State) → run_line number s (full_line inputs segment s) ≡ (answer, new) → Replied number (SubmitFull segment) (full_line inputs segment s) s answer new
 full_replies inputs number segment s answer new is =
     step_replies number (SubmitFull segment) s Submitter (submit_request s.moment inputs.scheduler (request_of segment)) spell (λ jobs. s.parties) s.parties s.parties (RequestEnds s.store) answer new refl
@@ -265,6 +270,7 @@ full_replies inputs number segment s answer new is =
 
 -- ---- outputs and finishes
 
+-- An output replies as it may: it is done, has no worker with such a range, is struck, or the operator refuses.
 output_replies : (inputs : Inputs) (number n job place rows : ℕ) (refusal : Option (List ℕ)) (s : State) (answer : List ℕ) (new : State) (o : Option (LiveWorker × Attempt × (Range × List ℕ))) → range_at s n job place ≡ o
     → let c = if_some o (no_such_party s) (λ found. output_line inputs s (output_asked s place rows refusal found)) in run_line number s c ≡ (answer, new) → Replied number (Output n job place rows) c s answer new
 output_replies inputs number n job place rows refusal s answer new None e is = none_replies number (Output n job place rows) s answer new is
@@ -291,6 +297,7 @@ output_replies inputs number n job place rows refusal s answer new (Some q) e is
     handle (OperatorRefuses message) printed parties p = IsRefused (record { worker = w; attempt = a; ran = ran; message = message; printed = printed; store = p; parties = parties })
     handle end printed parties p = absurd p
 
+-- A finish replies as it may: it is done, has no worker, is struck, the operator refuses, or the attempt is not live.
 finish_replies : (inputs : Inputs) (number n job : ℕ) (refusal : Option (List ℕ)) (s : State) (answer : List ℕ) (new : State) (o : Option (LiveWorker × Attempt)) → job_at s n job ≡ o
     → let c = if_some o (no_such_party s) (λ found. finish_line inputs s (finish_asked s refusal found)) in run_line number s c ≡ (answer, new) → Replied number (FinishJob n job) c s answer new
 finish_replies inputs number n job refusal s answer new None e is = none_replies number (FinishJob n job) s answer new is

@@ -116,6 +116,7 @@ beat_of_so : (line : ℕ) (party : Party) (moment : ℕ) (w : LiveWorker) (got :
 beat_of_so line party moment w got [] again store stored = tt
 beat_of_so line party moment w got (a ∷ live) again store stored = put_so line party got _ got.epoch _ _ again store Reported stored tt
 
+-- A heartbeat that nobody disturbs reports.
 pub beat_so : (line : ℕ) (party : Party) (moment : ℕ) (w : LiveWorker) (store : Store) → EndsSo line party (heartbeat moment w) store Reported
 unfolding heartbeat
 beat_so line party moment w store = either (is_nonempty w.attempts)
@@ -136,6 +137,7 @@ release_live_so : (line : ℕ) (party : Party) (w : LiveWorker) (got : Records) 
 release_live_so line party w got [] again store stored = tt
 release_live_so line party w got (a ∷ live) again store stored = put_so line party got _ got.epoch _ _ again store Reported stored tt
 
+-- A release of all attempts that nobody disturbs reports.
 pub release_so : (line : ℕ) (party : Party) (w : LiveWorker) (store : Store) → EndsSo line party (release_all w) store Reported
 unfolding release_all
 release_so line party w store = either (is_nonempty w.attempts)
@@ -281,6 +283,7 @@ finish_so line party merge tables ask store = gets_so line party (gets_tables as
 
 -- ---- flushes
 
+-- A flush that nobody disturbs reports, or has one of the six faults and changes nothing.
 pub flush_so : (line : ℕ) (party : Party) (moment retention last : ℕ) (ask : FlushAsk) (store : Store) → EndsSo line party (flush moment retention last ask) store (FlushEnds store)
 unfolding flush
 flush_so line party moment retention last ask store = before (fault_before_get last ask)
@@ -337,6 +340,7 @@ submit_so line party moment specs store = by store.records refl
     by None e = before_got line party GetRecords store store refl (before_itself store)
     by (Some got) e = specs_so line party moment got specs again (after_answered line party (Plain GetRecords) store) (SubmitEnds store) e (λ ids left. tt)
 
+-- A request that nobody disturbs reports, or is refused by the records or the scheduler and changes nothing.
 pub request_so : (line : ℕ) (party : Party) (moment : ℕ) (asked : Scheduler) (request : Request) (store : Store) → EndsSo line party (submit_request moment asked request) store (RequestEnds store)
 unfolding submit_request
 request_so line party moment asked request store = by store.records refl
@@ -371,6 +375,7 @@ report_so line party course store P report is so = made_so line party course sto
 pub start_so : (line : ℕ) (n : ℕ) (store : Store) → EndsSo line (Coordinator n) start store Reported
 start_so line n store = report_so line (Coordinator n) start store Reported (epoch_above store.manifest store.records) (start_made line (Coordinator n) store).answer_is (λ left. tt)
 
+-- A poll that nobody disturbs reports, or is fenced and changes nothing.
 pub poll_so : (line : ℕ) (party : Party) (ask : PollAsk) (store : Store) → EndsSo line party (poll ask) store (PollEnds store)
 unfolding poll
 poll_so line party ask store = outer (nat_lt ask.epoch m.epoch) refl

@@ -68,6 +68,7 @@ says_unowned answer = starts_with nat_eq answer (codes "notowner")
 says_other : (answer : List ℕ) → says_unowned answer ≡ true → says_unowned answer ≡ false → ⊥
 says_other answer said other = absurd (cc (sym said ∙ other))
 
+-- The law: neither trees nor records name the tables of a finish whose attempt is not live.
 pub unowned_tables_are_unnamed : UnownedTablesAreUnnamed
 unowned_tables_are_unnamed inputs old new n job answer c said = by (refusals_leave inputs c.number old (FinishJob n job) answer new c.course).replied
   where

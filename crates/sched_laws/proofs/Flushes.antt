@@ -132,6 +132,7 @@ module _ (store : Store) (sound : AllByRecursion (λ table. IsTable table.1) sto
       let rows : flushed_node_rows store.tables node ≡ table_rows store.tables name ++ [] = ap (λ l. flat_map (table_rows store.tables) l) own in
       rows_of_put store.tables name sound (both_true (is_among store.tables name) true there).0 (sym (append-nil (table_rows store.tables name)) ∙ sym rows ∙ none)
 
+  -- Two nodes of a tree, one newer than the other, do not have the same name.
   never_same : (newer older : Node) → StandsBefore newer.name older.name → IsNewer store.tables newer older → IsOwn newer → IsOwn older → WerePut store newer.flushes → newer.name ≡ older.name → ⊥
   never_same newer older before above own own_too put same = by newer.name refl
     where

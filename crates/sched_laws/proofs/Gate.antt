@@ -58,6 +58,7 @@ module _ (known : Jobs) (others : List JobSpec) (job : Job) (free : IsApartFrom 
   beside_apart : (other : Job) → is_apart (nodes_of job.spec) (nodes_of other.spec) ≡ true → leaves_free job other ≡ true
   beside_apart other away = or_right ((job.id == other.id) || not (reserves_nodes other || contains [] other.id)) (is_apart (nodes_of job.spec) (nodes_of other.spec)) away
 
+  -- Beside a job that may be there, the job for a proposal keeps rule 8.
   one_is_free : (other : Job) → MayBeThere known others job.id other → leaves_free job other ≡ true
   one_is_free other (Itself same) =
       or_left ((job.id == other.id) || not (reserves_nodes other || contains [] other.id)) (is_apart (nodes_of job.spec) (nodes_of other.spec))

@@ -208,6 +208,7 @@ module _ (o : TieredOptions) (tiered : are_tiered o ≡ true) (slots : ℕ) (tre
         by true later = later
         by false later = now
 
+  -- One pass keeps what holds of the picks so far, and leaves trees that are ready for the next pass.
   pass_keeps : (left : List Planned) (p : Picking) → Pairs Differ left → IsMidway trees jobs p → AllByRecursion (IsReady trees jobs p.picks) left → IsPassed (pass o slots left p)
   pass_keeps [] p differ midway ready = record { midway = midway; ready = tt }
   pass_keeps (t ∷ left) p differ midway ready =

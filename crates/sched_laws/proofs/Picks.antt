@@ -134,6 +134,7 @@ module _ (t : Planned) (trees : Trees) (stand : StandsIn trees t.tree) (before :
       let all : Pairs StandsBefore ((flush_names t.tree.flushes ++ run_names before) ++ (run_names (first ∷ others) ++ run_names after)) = subst (Pairs StandsBefore) parts stand.in_order in
       pairs_front StandsBefore (run_names (first ∷ others)) (run_names after) (pairs_back StandsBefore (flush_names t.tree.flushes ++ run_names before) (run_names (first ∷ others) ++ run_names after) all)
 
+  -- Runs that lie one after the other, of which no job uses one, are a pick into the last of them.
   runs_are_pick : (id : ℕ) → last_of (map (λ r. r.id) (first ∷ others)) ≡ Some id → ((x : NodeName) → In x (run_names (first ∷ others)) → In x t.used → ⊥)
       → IsPick trees t (into_last t.tree.segment (first ∷ others))
   runs_are_pick id last unused =
@@ -167,6 +168,7 @@ abbrev pub Makes : (fresh next : ℕ) → JobSpec → Type 0
 Makes fresh next spec = IntoLowest spec ⊎ (IntoFresh fresh spec × (next ≡ capped_id (fresh + 1)))
 
 module _ (o : TieredOptions) (tiered : are_tiered o ≡ true) (trees : Trees) (fresh : ℕ) (t : Planned) (stand : StandsIn trees t.tree) where
+  -- What is picked of runs is a pick of the tree, and makes a run that may be made.
   run_pick_is : (spec : JobSpec) → run_pick o t ≡ Some spec → IsPick trees t spec × Makes fresh (fresh_after o t fresh) spec
   run_pick_is spec e = by (first_series o t.used t.tree.runs) refl e
     where
@@ -190,6 +192,7 @@ module _ (o : TieredOptions) (tiered : are_tiered o ≡ true) (trees : Trees) (f
   flushes_are_picked before (first ∷ others) all some apart spec made =
       (subst (IsPick trees t) made (flushes_are_pick fresh t trees stand before first others all apart), subst (IntoFresh fresh) made (flushes_make_fresh fresh t (first ∷ others)))
 
+  -- What is picked of flushes is a pick of the tree, and makes a run that may be made.
   flush_pick_is : (spec : JobSpec) → flush_pick o fresh t ≡ Some spec → IsPick trees t spec × Makes fresh (fresh_after o t fresh) spec
   flush_pick_is spec e =
       by (nat_le o.least (length t.tree.flushes) && is_allowed o t.used (flush_names (oldest o.most t.tree.flushes)) (total_size (oldest o.most t.tree.flushes)) (Run fresh) t.tree.runs) refl e e

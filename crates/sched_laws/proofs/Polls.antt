@@ -87,6 +87,7 @@ record Adding (q : PollState) (drawn : List (ℕ × JobSpec)) (p : PollState) (r
   new : (d : ℕ × JobSpec) → IsIn d rest → (job : Job) → IsIn job p.jobs → d.0 ≡ job.id → ⊥
 
 module _ (q : PollState) (drawn : List (ℕ × JobSpec)) where
+  -- One more proposal that is added keeps what holds of the jobs that are added.
   added_one : (place : ℕ) (p : PollState) (d : ℕ × JobSpec) (rest : List (ℕ × JobSpec)) → IsIn d drawn → AllByRecursion (λ b. d.0 < b.0) rest → Adding q drawn p (d ∷ rest) → (b : Bool) → Adding q drawn (add_by d.0 place d.1 b p) rest
   added_one place p d rest there low a true = record {
     trees = a.trees;

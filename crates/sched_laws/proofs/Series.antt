@@ -87,6 +87,7 @@ module _ (o : TieredOptions) (used : List NodeName) where
       apart_from (run_names (drop k series)) used
       (λ x h there. apart_at (run_names series) used x apart (subst (In x) all (in_back x (run_names (take k series)) (run_names (drop k series)) h)) there)
 
+  -- The last runs of a series are found: they stand among the runs, and no job uses one.
   of_series : (runs series rest : List Sized) (k : ℕ) → series ++ rest ≡ runs → is_apart (run_names series) used ≡ true → 1 ≤ length (drop k series) → IsFound used runs (drop k series)
   of_series runs series rest k all apart some =
       let front = begins (drop k series) some in

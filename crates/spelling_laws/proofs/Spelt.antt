@@ -91,6 +91,7 @@ size_back n h = let same = number_of (suc n) (omega (arith, h)) in omega (arith,
 negative_or_not : (text : List ℕ) → SpeltOrNot below_zero (λ n. n < 2 ^ 63) text
 negative_or_not text = read_or_not below_zero (λ n. n < 2 ^ 63) size_below size_back text (same_or_not text (below_zero (size_below text))) (lt_or_not (size_below text) (2 ^ 63))
 
+-- Each text spells a stamp, or no stamp.
 pub stamp_or_not : (text : List ℕ) → SpeltOrNot signed_decimal IsStamp text
 stamp_or_not text = by (number_or_not (λ n. n < 2 ^ 63) (λ n h. omega (arith, h)) (λ n. lt_or_not n (2 ^ 63)) text) (negative_or_not text)
   where
@@ -103,6 +104,7 @@ stamp_or_not text = by (number_or_not (λ n. n < 2 ^ 63) (λ n h. omega (arith, 
         each (pos n) lt e = none n lt e
         each (negsuc n) lt e = no_other n lt e
 
+-- Each text spells a stamp or none, or neither.
 pub stamp_or_none_or_not : (text : List ℕ) → SpeltOrNot stamp_text IsStampOrNone text
 stamp_or_none_or_not text = by (same_or_not text (codes "-")) (stamp_or_not text)
   where
@@ -151,6 +153,7 @@ key_or_not text =
 
 -- ---- lists of words
 
+-- Each list of words spells a list of values, or one of its words spells none.
 pub map_or_not : {A : Type 0} (f : A → List ℕ) (P : A → Type 0) → ((text : List ℕ) → SpeltOrNot f P text) → (words : List (List ℕ)) → SpeltOrNot (map f) (AllByRecursion P) words
 map_or_not f P is_or_not [] = inl ([], tt, refl)
 map_or_not {A} f P is_or_not (w ∷ words) = by (is_or_not w) (map_or_not f P is_or_not words)

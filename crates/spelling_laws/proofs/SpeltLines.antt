@@ -55,6 +55,7 @@ with_number verb = named verb (last number)
 abbrev of_party : (verb party : List ℕ) → Words ℕ
 of_party verb party = named verb (named party (last number))
 
+-- Each list of words is that of a line in bounds, or of none.
 pub line_or_not : (given : List (List ℕ)) → IsLineOrNot given
 line_or_not given =
     or_else (λ (timeout, (concurrent, (slots, (ranges, (table_size, (moves, kept)))))). Options timeout concurrent slots ranges table_size moves kept) (named (codes "options") (followed number (followed number (followed number (followed (up_to 64 (omega arith)) (followed number (followed flag retention))))))) given (λ x. refl) (λ x h. (h.0, h.1.0, h.1.1.0, h.1.1.1.0, h.1.1.1.1.0, h.1.1.1.1.1.1)) (λ x h. (h.0, (h.1, (h.2, (h.3, (h.4, (tt, h.5))))))) λ no_options.

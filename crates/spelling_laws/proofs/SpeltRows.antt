@@ -22,6 +22,7 @@ IsLong bytes = AreBytes bytes × (length bytes < 2 ^ 32)
 abbrev long_bytes : Word (List ℕ)
 long_bytes = record { spelling = bytes_text; Fits = IsLong; is_spelt_or_not = sized_or_not (λ n. n < 2 ^ 32) (λ n. lt_or_not n (2 ^ 32)) }
 
+-- Each list of words begins with a kind and a content that fit, or with none.
 content_or_not : {A : Type 0} (after : Words A) (words : List (List ℕ)) → SpeltOrNot (λ (x : Content × A). kind_text x.0 ∷ content_text x.0 ∷ after.spelling x.1) (λ x. IsContent x.0 × after.Fits x.1) words
 content_or_not {A} after words = by ((named (codes "v") (followed long_bytes after)).is_spelt_or_not words) ((named (codes "m") (followed long_bytes after)).is_spelt_or_not words) ((named (codes "t") (named (codes "-") after)).is_spelt_or_not words)
   where
@@ -103,6 +104,7 @@ letter_or_not {A} letter after (b ∷ text) = by (same_or_not (b ∷ []) (letter
     by (inr is_not) rest = inr (λ x fits e. let is : b ∷ [] ≡ letter ∷ [] = cc e in is_not is)
     by (inl is) (inr none) = inr (λ x fits e. none x fits (ap (drop 1) e))
 
+-- Each text spells a node, or none.
 pub node_or_not : (text : List ℕ) → SpeltOrNot node_text IsNode text
 node_or_not text = by (letter_or_not 108 name text) (letter_or_not 114 short_number text)
   where
@@ -125,6 +127,7 @@ nodes_of_each : (nodes : List NodeName) → AllByRecursion IsNode nodes → AreN
 nodes_of_each [] h = tt
 nodes_of_each (node ∷ nodes) h = (h.0, nodes_of_each nodes h.1)
 
+-- Each text spells a list of nodes, or none.
 pub nodes_or_not : (text : List ℕ) → SpeltOrNot nodes_text AreNodes text
 nodes_or_not text = by (same_or_not text (codes "-")) (list_or_not node_text IsNode node_lacks node_or_not text)
   where

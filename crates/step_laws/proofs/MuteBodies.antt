@@ -122,7 +122,7 @@ fits_quiet merge world specs deleted jobs_drawn tables_drawn entry job quiet spa
 
 -- ---- the whole
 
--- An entry is fit to be world: it mentions drawn jobs, and plans of attempts that were claimed.
+-- An entry may stand in the history: it mentions drawn jobs, and plans of attempts that were claimed.
 pub record IsFit (world : World) (entry : Entry) : Type 0 where
   pub mentioned : AllByRecursion (λ id. IsTrue (contains (drawn_jobs world.store.history) id)) (mentioned_in entry)
   pub planned : AllByRecursion (IsUpTo world.store.history (stored_jobs world.store)) (planned_attempts entry.event)

@@ -80,6 +80,7 @@ objects_after world specs line party change answer u version epoch jobs took sam
 
 -- ---- what new jobs have to be
 
+-- What the new jobs of a put of the records must meet, so that the put keeps the invariant.
 pub record RecordsFollow (merge : Operator) (world : World) (specs : ℕ → JobSpec) (records : Records) (entry : Entry) : Type 0 where
   pub objects : after_entry world.store.tables specs entry (plain_objects world.store) ≡ plain_objects (with_records world records entry).store
   pub job_ids : Pairs (λ a b. a.id < b.id) records.jobs

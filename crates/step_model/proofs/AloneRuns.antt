@@ -36,6 +36,7 @@ abbrev pub HasRoomAlone : {A : Type 0} → Caller → Course A → World → Typ
 HasRoomAlone who (Ends answer) old = ⊤
 HasRoomAlone who (Calls x next) old = HasRoom old x × HasRoomAlone who (next old.store) (after_call who.line who.party x None old)
 
+-- A course that runs alone, with room for its draws, runs as courses do.
 pub run_alone-runs : {A : Type 0} (who : Caller) (course : Course A) (fault : Option Fault) (old : World) → HasRoomAlone who course old → IsRun who course old (run_alone who.line who.party course fault old.store)
 run_alone-runs who (Ends answer) fault old room = record { new = old; stored = refl; runs = (refl, refl) }
 run_alone-runs {A} who (Calls x next) fault old room =
@@ -60,6 +61,7 @@ not_moved : (who : Caller) (calls : List RivalCall) (old met : World) → calls 
 not_moved who [] old met none lead = lead
 not_moved who (call ∷ calls) old met none lead = absurd (cc none)
 
+-- A run without others and without a fault ends as the run that is alone.
 pub run_alone-only : {A : Type 0} (who : Caller) (course : Course A) (old new : World) (answer : A) → who.alone ≡ true → Runs who course old new (Gives answer)
     → run_alone who.line who.party course None old.store ≡ record { answer = Some answer; store = new.store; fault = None }
 run_alone-only who (Ends given) old new answer alone runs =

@@ -66,6 +66,7 @@ ranges_extend (r ∷ ranges) = (refl, itself r.1, ranges_extend ranges)
 
 -- ---- a live attempt after the put
 
+-- A live attempt and its job before and after a put of the worker: the attempt goes on, and may use its tables.
 record Still (world : World) (new : World) (w : LiveWorker) (a : Attempt) : Type 0 where
   pub job : Job
   pub now : job_with a.job (stored_jobs new.store) ≡ Some job

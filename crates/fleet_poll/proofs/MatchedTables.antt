@@ -42,73 +42,74 @@ output_views (Some run) = run.views
 
 module _ (tables : Tables) (sources : List SourceId) where
   views_kept : (views : List View) → ViewsTold tables views → ViewsTold tables (kept_views sources views)
-  views_kept [] told = tt
-  views_kept (view ∷ views) told = by (is_named sources (L0 view.id)) (views_kept views told.1)
+  views_kept [] matched = tt
+  views_kept (view ∷ views) matched = by (is_named sources (L0 view.id)) (views_kept views matched.1)
     where
       by : (b : Bool) → ViewsTold tables (kept_views sources views) → ViewsTold tables (cond (not b) (view ∷ kept_views sources views) (kept_views sources views))
       by true rest = rest
-      by false rest = (told.0, rest)
+      by false rest = (matched.0, rest)
 
   runs_kept : (runs : List SortedRun) → ViewsTold tables (flat_map (λ run. run.views) runs) → ViewsTold tables (flat_map (λ run. run.views) (kept_runs sources runs))
-  runs_kept [] told = tt
-  runs_kept (run ∷ runs) told = by (is_named sources (Run run.id)) (runs_kept runs (all_back (ViewTold tables) run.views (flat_map (λ r. r.views) runs) told))
+  runs_kept [] matched = tt
+  runs_kept (run ∷ runs) matched = by (is_named sources (Run run.id)) (runs_kept runs (all_back (ViewTold tables) run.views (flat_map (λ r. r.views) runs) matched))
     where
       by : (b : Bool) → ViewsTold tables (flat_map (λ r. r.views) (kept_runs sources runs)) → ViewsTold tables (flat_map (λ r. r.views) (cond (not b) (run ∷ kept_runs sources runs) (kept_runs sources runs)))
       by true rest = rest
-      by false rest = all_both (ViewTold tables) run.views (flat_map (λ r. r.views) (kept_runs sources runs)) (all_front (ViewTold tables) run.views (flat_map (λ r. r.views) runs) told) rest
+      by false rest = all_both (ViewTold tables) run.views (flat_map (λ r. r.views) (kept_runs sources runs)) (all_front (ViewTold tables) run.views (flat_map (λ r. r.views) runs) matched) rest
 
-  put_told : (run : SortedRun) (runs : List SortedRun) → ViewsTold tables run.views → ViewsTold tables (flat_map (λ r. r.views) runs) → ViewsTold tables (flat_map (λ r. r.views) (put_run run runs))
-  put_told run [] one told = all_both (ViewTold tables) run.views [] one tt
-  put_told run (other ∷ others) one told = by (nat_lt other.id run.id) (put_told run others one (all_back (ViewTold tables) other.views (flat_map (λ r. r.views) others) told))
+  put_matched : (run : SortedRun) (runs : List SortedRun) → ViewsTold tables run.views → ViewsTold tables (flat_map (λ r. r.views) runs) → ViewsTold tables (flat_map (λ r. r.views) (put_run run runs))
+  put_matched run [] one matched = all_both (ViewTold tables) run.views [] one tt
+  put_matched run (other ∷ others) one matched = by (nat_lt other.id run.id) (put_matched run others one (all_back (ViewTold tables) other.views (flat_map (λ r. r.views) others) matched))
     where
       by : (b : Bool) → ViewsTold tables (flat_map (λ r. r.views) (put_run run others)) → ViewsTold tables (flat_map (λ r. r.views) (cond b (run ∷ other ∷ others) (other ∷ put_run run others)))
-      by true rest = all_both (ViewTold tables) run.views (flat_map (λ r. r.views) (other ∷ others)) one told
-      by false rest = all_both (ViewTold tables) other.views (flat_map (λ r. r.views) (put_run run others)) (all_front (ViewTold tables) other.views (flat_map (λ r. r.views) others) told) rest
+      by true rest = all_both (ViewTold tables) run.views (flat_map (λ r. r.views) (other ∷ others)) one matched
+      by false rest = all_both (ViewTold tables) other.views (flat_map (λ r. r.views) (put_run run others)) (all_front (ViewTold tables) other.views (flat_map (λ r. r.views) others) matched) rest
 
-  output_told : (output : Option SortedRun) (runs : List SortedRun) → ViewsTold tables (output_views output) → ViewsTold tables (flat_map (λ r. r.views) runs) → ViewsTold tables (flat_map (λ r. r.views) (with_output output runs))
-  output_told None runs one told = told
-  output_told (Some run) runs one told = put_told run runs one told
+  output_matched : (output : Option SortedRun) (runs : List SortedRun) → ViewsTold tables (output_views output) → ViewsTold tables (flat_map (λ r. r.views) runs) → ViewsTold tables (flat_map (λ r. r.views) (with_output output runs))
+  output_matched None runs one matched = matched
+  output_matched (Some run) runs one matched = put_matched run runs one matched
 
-  finished_tree_told : (output : Option SortedRun) (tree : LsmTreeState) → ViewsTold tables (output_views output) → ViewsTold tables (views_of tree) → ViewsTold tables (views_of (finished_tree sources output tree))
-  finished_tree_told output tree one told =
+  finished_tree_matched : (output : Option SortedRun) (tree : LsmTreeState) → ViewsTold tables (output_views output) → ViewsTold tables (views_of tree) → ViewsTold tables (views_of (finished_tree sources output tree))
+  finished_tree_matched output tree one matched =
       let runs = flat_map (λ (r : SortedRun). r.views) tree.compacted in
       all_both (ViewTold tables) (kept_views sources tree.l0) (flat_map (λ r. r.views) (with_output output (kept_runs sources tree.compacted)))
-      (views_kept tree.l0 (all_front (ViewTold tables) tree.l0 runs told))
-      (output_told output (kept_runs sources tree.compacted) one (runs_kept tree.compacted (all_back (ViewTold tables) tree.l0 runs told)))
+      (views_kept tree.l0 (all_front (ViewTold tables) tree.l0 runs matched))
+      (output_matched output (kept_runs sources tree.compacted) one (runs_kept tree.compacted (all_back (ViewTold tables) tree.l0 runs matched)))
 
 module _ (tables : Tables) (spec : CompactionSpec) (output : Option SortedRun) (one : ViewsTold tables (output_views output)) where
-  tree_told : (prefix : List ℕ) (tree : LsmTreeState) → ViewsTold tables (views_of tree) → ViewsTold tables (views_of (tree_after spec output prefix tree))
-  tree_told prefix tree told = by (bytes_eq (segment_of spec) prefix)
+  tree_matched : (prefix : List ℕ) (tree : LsmTreeState) → ViewsTold tables (views_of tree) → ViewsTold tables (views_of (tree_after spec output prefix tree))
+  tree_matched prefix tree matched = by (bytes_eq (segment_of spec) prefix)
     where
       by : (b : Bool) → ViewsTold tables (views_of (cond b (finished_tree (sources_of spec) output tree) tree))
-      by true = finished_tree_told tables (sources_of spec) output tree one told
-      by false = told
+      by true = finished_tree_matched tables (sources_of spec) output tree one matched
+      by false = matched
 
-  segments_told : (segments : List (List ℕ × LsmTreeState)) → AllByRecursion (λ s. ViewsTold tables (views_of s.1)) segments → AllByRecursion (λ s. ViewsTold tables (views_of s.1)) (map (segment_after spec output) segments)
-  segments_told [] told = tt
-  segments_told (s ∷ segments) told = (tree_told s.0 s.1 told.0, segments_told segments told.1)
+  segments_matched : (segments : List (List ℕ × LsmTreeState)) → AllByRecursion (λ s. ViewsTold tables (views_of s.1)) segments → AllByRecursion (λ s. ViewsTold tables (views_of s.1)) (map (segment_after spec output) segments)
+  segments_matched [] matched = tt
+  segments_matched (s ∷ segments) matched = (tree_matched s.0 s.1 matched.0, segments_matched segments matched.1)
 
--- If the tables of the trees are told, and those of the run that is made, then so are those of the trees after it.
-pub finished_trees_told : (tables : Tables) (job : JobParts) (output : Option SortedRun) (core : ManifestCore) → ViewsTold tables (output_views output) → TreesTold tables core → TreesTold tables (core_after job output core)
-finished_trees_told tables job output core one told = (tree_told tables job.spec output one [] core.tree told.0, segments_told tables job.spec output one core.segments told.1)
+-- If the tables of the trees match the tables that were put, and those of the run that is made do, so do those of the trees
+-- after it.
+pub finished_trees_matched : (tables : Tables) (job : JobParts) (output : Option SortedRun) (core : ManifestCore) → ViewsTold tables (output_views output) → TreesTold tables core → TreesTold tables (core_after job output core)
+finished_trees_matched tables job output core one matched = (tree_matched tables job.spec output one [] core.tree matched.0, segments_matched tables job.spec output one core.segments matched.1)
 
 -- ---- jobs
 
 -- A run names its own tables by their own ids.
-own_told : (tables : Tables) (handles : List SsTableHandle) → AreTold tables handles → ViewsTold tables (own_views handles)
-own_told tables [] told = tt
-own_told tables (handle ∷ handles) told = (record { identity = refl; handle = told.0 }, own_told tables handles told.1)
+own_matched : (tables : Tables) (handles : List SsTableHandle) → AreTold tables handles → ViewsTold tables (own_views handles)
+own_matched tables [] matched = tt
+own_matched tables (handle ∷ handles) matched = (record { identity = refl; handle = matched.0 }, own_matched tables handles matched.1)
 
 -- The tables that a job's worker wrote are among those that its record names.
-pub written_told : (tables : Tables) (job : JobParts) → AreTold tables (job_handles job) → AreTold tables (written_tables job)
-written_told tables job told = all_back (IsTold tables) (flat_map (λ range. range.output_ssts) (ranges_in job.ctx)) (written_tables job) told
+pub written_matched : (tables : Tables) (job : JobParts) → AreTold tables (job_handles job) → AreTold tables (written_tables job)
+written_matched tables job matched = all_back (IsTold tables) (flat_map (λ range. range.output_ssts) (ranges_in job.ctx)) (written_tables job) matched
 
-pub joined_told : (tables : Tables) (job : JobParts) → AreTold tables (job_handles job) → ViewsTold tables (output_views (joined_run job))
-joined_told tables job told = by (destination_of job.spec)
+pub joined_matched : (tables : Tables) (job : JobParts) → AreTold tables (job_handles job) → ViewsTold tables (output_views (joined_run job))
+joined_matched tables job matched = by (destination_of job.spec)
   where
     by : (destination : Option ℕ) → ViewsTold tables (output_views (run_of_tables destination (written_tables job)))
     by None = tt
-    by (Some id) = own_told tables (written_tables job) (written_told tables job told)
+    by (Some id) = own_matched tables (written_tables job) (written_matched tables job matched)
 
 -- What holds of all jobs holds of the one that is found.
 pub found_holds : (P : JobParts → Type 0) (id : ℕ) (jobs : List JobParts) (job : JobParts) → record_with id jobs ≡ Some job → AllByRecursion P jobs → P job
