@@ -25,7 +25,7 @@ abbrev pub is_accepted : List ℕ → List ℕ → Bool
 is_accepted [] bytes = is_short bytes
 is_accepted (unwanted ∷ s) bytes = is_short bytes && lacks unwanted bytes
 
-abbrev pub accepted_outcome : List ℕ → List ℕ → Outcome
+abbrev pub accepted_outcome : (s bytes : List ℕ) → Outcome
 accepted_outcome s bytes = if is_accepted s bytes then Merged bytes else Refused (codes "no")
 
 -- The operator joins the operand's bytes to the existing ones, if there are any. It refuses if the joined

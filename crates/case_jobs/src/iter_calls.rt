@@ -3,7 +3,7 @@
 ghost use Rattle.std.specs.Prelude.{⊤, Bool, IfOk};
 ghost use Rattle.std.specs.List.{AllByRecursion};
 ghost use Rattle.fleet_iter.specs.Iteration.{AreRising, IsAlive};
-ghost use Rattle.fleet_iter.specs.List.{giving};
+ghost use Rattle.fleet_iter.specs.List.{giving_state};
 ghost use Rattle.fleet_iter.specs.Merge.{given_rows};
 ghost use Rattle.fleet_iter.specs.MergeState.{state_of, merge_of, IsSound};
 
@@ -93,10 +93,10 @@ fn rising_lists(alloc: Global, sources: &str) -> Result<Vec<ListIterator>, Flaw>
 
 /// The ascending merge of sources. It is an error if the keys in a source do not rise.
 pub fn rising_merge(alloc: Global, sources: &str) -> Result<MergeIterator<ListIterator>, Flaw>
-    ensures sound { IfOk result (λ merge. IsSound (λ _. ⊤) giving merge) }
-    ensures alive { IfOk result (λ merge. IsAlive (state_of giving merge)) }
+    ensures sound { IfOk result (λ merge. IsSound (λ _. ⊤) giving_state merge) }
+    ensures alive { IfOk result (λ merge. IsAlive (state_of giving_state merge)) }
     ensures rising { IfOk result
-        (λ merge. (dedup : Bool) → AreRising (given_rows dedup (merge_of giving merge))) }
+        (λ merge. (dedup : Bool) → AreRising (given_rows dedup (merge_of giving_state merge))) }
 {
     merges_rise();
     Ok(MergeIterator::new(alloc, rising_lists(alloc, sources)?))
@@ -118,7 +118,7 @@ fn any_merge(
     sources: &str,
     order: IterationOrder,
 ) -> Result<MergeIterator<ListIterator>, Flaw>
-    ensures sound { IfOk result (λ merge. IsSound (λ _. ⊤) giving merge) }
+    ensures sound { IfOk result (λ merge. IsSound (λ _. ⊤) giving_state merge) }
 {
     let lists = lists(alloc, sources)?;
     Ok(MergeIterator::new_with_order(alloc, lists, order))
@@ -130,7 +130,7 @@ fn tell_merged(
     merge: &mut MergeIterator<ListIterator>,
     answer: &mut String,
 ) -> Result<(), Flaw>
-    requires { IsSound (λ _. ⊤) giving merge.old }
+    requires { IsSound (λ _. ⊤) giving_state merge.old }
 {
     tell_ready(alloc, merge, answer)?;
     let bytes = merge.bytes_processed();

@@ -36,7 +36,8 @@ pub record IsWhole (merge : Operator) (world : World) (w : LiveWorker) (a : Atte
   pub refuses_none : (range_rows merge world.store.tables a.context.settings a.sources range.0).whole ≡ true
 
 -- The result of an attempt has one list of tables for each of its ranges, and each is whole.
-abbrev pub ResultFits : Operator → World → LiveWorker → List (List ℕ) → Attempt → Type 0
+abbrev pub ResultFits : (merge : Operator) (world : World) (w : LiveWorker) (result : List (List ℕ)) (a : Attempt)
+    → Type 0
 ResultFits merge world w result a = AllZip (IsWhole merge world w a) a.context.ranges result
 
 -- The step by which a worker that fits takes a message about an attempt is a lawful course, if every

@@ -25,7 +25,8 @@ fn run_iterators<'s>(
     range: &'s BytesRange,
 ) -> Result<Vec<RunIterator<'s>>, SlateDBError>
     ensures rows { IfOk result
-        (λ iterators. map state_of iterators.items ≡ opened_states (range_of range.now) sources.now) }
+        (λ iterators. map state_of iterators.items
+        ≡ opened_states (range_of range.now) sources.now) }
 {
     let mut iterators = Vec::with_capacity(alloc, sources.len())?;
     'sources: for source in sources {

@@ -3,7 +3,7 @@
 ghost use Rattle.std.specs.Prelude.{◌≡◌, ⊤, false};
 ghost use Rattle.std.specs.List.{AllByRecursion};
 ghost use Rattle.fleet_iter.specs.Iteration.{AreRising, IsAlive};
-ghost use Rattle.fleet_iter.specs.List.{giving};
+ghost use Rattle.fleet_iter.specs.List.{giving_state};
 ghost use Rattle.fleet_iter.specs.MergeState.{state_of, IsSound};
 
 use crate::ranges::{count_finished, count_rows, make_runs};
@@ -99,9 +99,9 @@ fn count_given<T: RowEntryIterator>(alloc: Global, iterator: T) -> Result<u64, S
 // A merge of lists whose rows rise, without dedup.
 fn merge(alloc: Global, lists: Vec<ListIterator>) -> MergeIterator<ListIterator>
     requires { AllByRecursion (λ l. AreRising l.rows) lists.items }
-    ensures sound { IsSound (λ _. ⊤) giving result }
-    ensures alive { IsAlive (state_of giving result) }
-    ensures rising { AreRising (state_of giving result).rows }
+    ensures sound { IsSound (λ _. ⊤) giving_state result }
+    ensures alive { IsAlive (state_of giving_state result) }
+    ensures rising { AreRising (state_of giving_state result).rows }
 {
     merges_rise();
     MergeIterator::new(alloc, lists).with_dedup(false)

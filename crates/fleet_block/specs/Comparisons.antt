@@ -7,11 +7,11 @@ use Rattle.fleet_block.specs.Finds.{IsFound}
 use Rattle.fleet_block.specs.declared.field.KeyParts.{KeyParts}
 
 -- The key that stands in these parts of some bytes, in a block with this first key.
-abbrev pub key_of : List ℕ → List ℕ → KeyParts → List ℕ
+abbrev pub key_of : (first bytes : List ℕ) (parts : KeyParts) → List ℕ
 key_of first bytes parts = take parts.shared first ++ slice_range bytes parts.start (parts.start + parts.len)
 
 -- If a row of a block with this first key stands at the place, the reader tells what `of` says of the row.
-abbrev pub Tells : {A : Type 0} → (Row → A) → List ℕ → List ℕ → ℕ → Option (A × ℕ) → Type 0
+abbrev pub Tells : {A : Type 0} → (of : Row → A) (first bytes : List ℕ) (place : ℕ) (found : Option (A × ℕ)) → Type 0
 Tells of first bytes place found = (r : Row) (others : List ℕ) → IsWritable r
     → drop place bytes ≡ row_bytes first r ++ others → IsFound (λ x. x) (of r) others bytes found
 
@@ -21,7 +21,7 @@ IsPassed others bytes None = ⊥
 IsPassed others bytes (Some place) = drop place bytes ≡ others
 
 -- The reader passes over the content of a row, whose kind the flags tell.
-abbrev pub PassesContent : ℕ → List ℕ → ℕ → Option ℕ → Type 0
+abbrev pub PassesContent : (flags : ℕ) (bytes : List ℕ) (place : ℕ) (found : Option ℕ) → Type 0
 PassesContent flags bytes place found = (x : Content) (others : List ℕ) → content_len x < 2 ^ 32
     → flags % 4 ≡ content_flag x → drop place bytes ≡ content_bytes x ++ others → IsPassed others bytes found
 

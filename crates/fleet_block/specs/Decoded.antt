@@ -16,7 +16,7 @@ abbrev pub value_in : List ℕ → List ℕ × List ℕ
 value_in bytes = let len = number_in w32 bytes in part_in len.0 len.1
 
 -- A key: how many bytes it shares with the first key of its block, how many are left, and these.
-abbrev pub key_in : List ℕ → List ℕ → List ℕ × List ℕ
+abbrev pub key_in : (first bytes : List ℕ) → List ℕ × List ℕ
 key_in first bytes =
     let shared = number_in w16 bytes in
     let len = number_in w16 shared.1 in
@@ -35,7 +35,7 @@ content_in kind bytes =
     if kind == 1 then (Tombstone, bytes) else (if kind == 2 then Merge value.0 else Value value.0, value.1)
 
 -- A row of a block with this first key.
-abbrev pub row_in : List ℕ → List ℕ → Row × List ℕ
+abbrev pub row_in : (first bytes : List ℕ) → Row × List ℕ
 row_in first bytes =
     let key = key_in first bytes in
     let seq = number_in w64 key.1 in

@@ -29,7 +29,8 @@ pub record AreRows (filled count : ℕ) (rows : List Row) : Type 0 where
 
 -- The reader finds so many rows of a block with this first key, and puts them after other rows, which have
 -- `filled` bytes.
-abbrev pub FindsLater : {V : Type 0} → (V → List Row) → List ℕ → ℕ → ℕ → List Row → List ℕ → ℕ → Option (V × ℕ) → Type 0
+abbrev pub FindsLater : {V : Type 0} → (view : V → List Row) (first : List ℕ) (filled count : ℕ) (before : List Row)
+    (bytes : List ℕ) (place : ℕ) (found : Option (V × ℕ)) → Type 0
 FindsLater view first filled count before bytes place found = (rows : List Row) (others : List ℕ)
     → AreRows filled count rows → drop place bytes ≡ flat_map (row_bytes first) rows ++ others
     → IsFound view (before ++ rows) others bytes found
@@ -50,7 +51,8 @@ joined_rows cut = flat_map (λ rows. rows) cut
 
 -- The reader finds so many blocks, whose headers and rows begin at two places, and puts their rows after
 -- other rows.
-abbrev pub FindsBlocks : {V : Type 0} → (V → List Row) → ℕ → List Row → List ℕ → ℕ → ℕ → Option (V × ℕ) → Type 0
+abbrev pub FindsBlocks : {V : Type 0} → (view : V → List Row) (count : ℕ) (before : List Row) (bytes : List ℕ)
+    (header place : ℕ) (found : Option (V × ℕ)) → Type 0
 FindsBlocks view count before bytes header place found = (cut : List (List Row)) (after others : List ℕ)
     → AreBlocks count cut
     → drop header bytes ≡ flat_map header_bytes cut ++ after → drop place bytes ≡ flat_map rows_bytes cut ++ others

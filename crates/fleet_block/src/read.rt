@@ -89,7 +89,8 @@ fn blocks_at(
     requires header { header ≤ length bytes.now }
     requires place { place ≤ length bytes.now }
     requires small { length bytes.now < 2 ^ 64 }
-    ensures found { IfOk result (FindsBlocks (λ v. rows_of v.items) count [] bytes.now header place) }
+    ensures found { IfOk result
+        (FindsBlocks (λ v. rows_of v.items) count [] bytes.now header place) }
     ensures memory { IsOkUnless result SlateDBError.Memory }
 {
     let mut rows = Vec::new(alloc);

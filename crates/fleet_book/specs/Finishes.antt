@@ -35,7 +35,7 @@ abbrev pub merged_segment : ManifestCore → List ℕ × LsmTreeState → List �
 merged_segment own s = (s.0, merged_tree (tree_in s.0 own) s.1)
 
 -- The contents of a stored manifest, with the trees that the coordinator makes of its own and the stored ones.
-abbrev pub merged_core : ManifestCore → ManifestCore → ManifestCore
+abbrev pub merged_core : (own stored : ManifestCore) → ManifestCore
 merged_core own stored =
     record stored { tree = from_writer own.tree stored.tree; segments = map (merged_segment own) stored.segments }
 
@@ -44,7 +44,7 @@ abbrev pub with_core : ManifestCore → VersionedManifest → VersionedManifest
 with_core core manifest = record manifest { manifest = record manifest.manifest { core = core } }
 
 -- The coordinator's manifest after it saw the stored one. But for the trees it is the stored one.
-abbrev pub merged_manifest : VersionedManifest → VersionedManifest → VersionedManifest
+abbrev pub merged_manifest : (own stored : VersionedManifest) → VersionedManifest
 merged_manifest own stored = with_core (merged_core own.manifest.core stored.manifest.core) stored
 
 -- True if one of the sources has this name.
@@ -89,7 +89,8 @@ finished_tree sources output tree = record tree {
 }
 
 -- The tree of the segment with this prefix after a job. Only the tree of the job's segment changes.
-abbrev pub tree_after : CompactionSpec → Option SortedRun → List ℕ → LsmTreeState → LsmTreeState
+abbrev pub tree_after : (spec : CompactionSpec) (output : Option SortedRun) (prefix : List ℕ) (tree : LsmTreeState)
+    → LsmTreeState
 tree_after spec output prefix tree =
     if bytes_eq (segment_of spec) prefix then finished_tree (sources_of spec) output tree else tree
 

@@ -62,7 +62,8 @@ JoinsAreTheModels =
     ≡ stepped_in tables (Join job.id) (spec_of job.spec) (view_tables output.views) (trees_of before core)
 
 -- In the job's segment, the tables are those of the sources by rising first key.
-abbrev pub AreMoved : RunFlushes → Tables → CompactionSpec → List View → List ℕ × LsmTreeState → Type 0
+abbrev pub AreMoved : (flushes : RunFlushes) (tables : Tables) (spec : CompactionSpec) (views : List View)
+    (s : List ℕ × LsmTreeState) → Type 0
 AreMoved flushes tables spec views s = bytes_eq (segment_of spec) s.0 ≡ true
     → view_tables views ≡ by_first_key tables (source_pieces (names_of spec) (tree_of (flushes s.0) s.1))
 

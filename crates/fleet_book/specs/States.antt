@@ -31,11 +31,11 @@ abbrev pub with_stored : List JobParts → JobParts → List JobParts
 with_stored jobs stored = if takes (record_with stored.id jobs) stored then put_record stored jobs else jobs
 
 -- The coordinator's jobs after it saw all stored records.
-abbrev pub merged_jobs : List JobParts → List JobParts → List JobParts
+abbrev pub merged_jobs : (jobs stored : List JobParts) → List JobParts
 merged_jobs jobs stored = fold with_stored jobs stored
 
 -- The coordinator's records after it saw the stored ones. They have the stored version and its own epoch.
-abbrev pub merged_records : VersionedRecords → VersionedRecords → VersionedRecords
+abbrev pub merged_records : (own stored : VersionedRecords) → VersionedRecords
 merged_records own stored = record {
   id = stored.id;
   compactions = record own.compactions { jobs = merged_jobs own.compactions.jobs stored.compactions.jobs };

@@ -10,7 +10,7 @@ use Rattle.fleet_book.specs.Records.{AreRising, kept_records}
 use Rattle.fleet_book.specs.declared.compactions.Compactions.{Compactions}
 use Rattle.fleet_store.specs.Records.{DescribeTables}
 use Rattle.fleet_store.proofs.Described.{kept_describe}
-use Rattle.fleet_claim.specs.Puts.{ClaimsRecords, claimed_record, is_named, taken}
+use Rattle.fleet_claim.specs.Puts.{ClaimsRecords, claimed_record, is_named, taken_record}
 use Rattle.fleet_claim.proofs.Lists.{rising_map}
 
 named_contains : (attempts : List (ℕ × ℕ)) (job : ℕ) → is_named attempts job ≡ contains (firsts attempts) job
@@ -28,21 +28,21 @@ module _ (worker moment : ℕ) (attempts : List (ℕ × ℕ)) where
   same_id : (job : JobParts) → (claimed job).id ≡ job.id
   same_id job = by (is_named attempts job.id)
     where
-      by : (b : Bool) → (cond b (taken worker moment job) job).id ≡ job.id
+      by : (b : Bool) → (cond b (taken_record worker moment job) job).id ≡ job.id
       by true = refl
       by false = refl
 
   same_handles : (job : JobParts) → job_handles (claimed job) ≡ job_handles job
   same_handles job = by (is_named attempts job.id)
     where
-      by : (b : Bool) → job_handles (cond b (taken worker moment job) job) ≡ job_handles job
+      by : (b : Bool) → job_handles (cond b (taken_record worker moment job) job) ≡ job_handles job
       by true = refl
       by false = refl
 
   model_job : (job : JobParts) → job_of (claimed job) ≡ cond (contains (firsts attempts) job.id) (claimed_by worker moment (job_of job)) (job_of job)
   model_job job = by (is_named attempts job.id) ∙ ap (λ b. cond b (claimed_by worker moment (job_of job)) (job_of job)) (named_contains attempts job.id)
     where
-      by : (b : Bool) → job_of (cond b (taken worker moment job) job) ≡ cond b (claimed_by worker moment (job_of job)) (job_of job)
+      by : (b : Bool) → job_of (cond b (taken_record worker moment job) job) ≡ cond b (claimed_by worker moment (job_of job)) (job_of job)
       by true = refl
       by false = refl
 

@@ -49,7 +49,7 @@ options_of options = record {
 }
 
 -- What a claim depends on over this store.
-abbrev pub input_of : Release → CompactionWorkerOptions → ℕ → Store → ClaimInput
+abbrev pub input_of : (release : Release) (options : CompactionWorkerOptions) (moment : ℕ) (store : Store) → ClaimInput
 input_of release options moment store = record {
   release = release_of release;
   manifest = store.manifest;
@@ -72,7 +72,8 @@ can_begin core job =
     && ids_eq (view_tables (source_views job.spec core)) job.source_tables
 
 -- The settings of an attempt that begins under this manifest, whose tree has these nodes.
-abbrev pub settings_at : ManifestCore → CompactionWorkerOptions → ℕ → CompactionSpec → List NodeName → Settings
+abbrev pub settings_at : (core : ManifestCore) (options : CompactionWorkerOptions) (moment : ℕ) (spec : CompactionSpec)
+    (nodes : List NodeName) → Settings
 settings_at core options moment spec nodes = record {
   floor = core.recent_snapshot_min_seq;
   tick = core.last_l0_clock_tick;

@@ -18,7 +18,7 @@ abbrev pub is_stopped : List ℕ → Job → Bool
 is_stopped running job = is_waiting job && contains running job.id
 
 -- The records of the jobs that a worker takes, and the ids of those that it stops.
-abbrev pub taken_records : ℕ → List ℕ → Release → List JobParts → List JobParts
+abbrev pub taken_records : (slots : ℕ) (running : List ℕ) (release : Release) (jobs : List JobParts) → List JobParts
 taken_records slots running release jobs =
     take (slots - length running) (filter (λ job. is_taken running (release_of release) (job_of job)) jobs)
 

@@ -21,13 +21,13 @@ abbrev pub is_named : List (ℕ × ℕ) → ℕ → Bool
 is_named attempts job = list_any (λ a. a.0 == job) attempts
 
 -- The record of a job that is Running with the worker at its next attempt.
-abbrev pub taken : (worker moment : ℕ) → JobParts → JobParts
-taken worker moment job =
+abbrev pub taken_record : (worker moment : ℕ) → JobParts → JobParts
+taken_record worker moment job =
     record (with_status Running job) { worker = worker_at worker moment; attempt = job.attempt + 1 }
 
 -- The record of the job, claimed if one of these attempts is at it.
 abbrev pub claimed_record : (worker moment : ℕ) → List (ℕ × ℕ) → JobParts → JobParts
-claimed_record worker moment attempts job = if is_named attempts job.id then taken worker moment job else job
+claimed_record worker moment attempts job = if is_named attempts job.id then taken_record worker moment job else job
 
 -- The records have the model's jobs after the claim, keep the epoch, and describe no other tables.
 pub record ClaimsRecords (worker moment : ℕ) (attempts : List (ℕ × ℕ)) (old new : Compactions) : Type 0 where

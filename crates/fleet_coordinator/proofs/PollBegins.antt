@@ -44,7 +44,7 @@ use Rattle.fleet_step.specs.Draws.{Drew}
 use Rattle.fleet_poll.specs.Loops.{CommitsStand, HasReached}
 use Rattle.fleet_poll.specs.Made.{own_core}
 use Rattle.fleet_poll.specs.Polls.{poll_of}
-use Rattle.fleet_poll.specs.Seen.{IsTold, JobsTold, Sees, TreesTold, ViewTold, views_of, without_trees}
+use Rattle.fleet_poll.specs.Seen.{JobsMatch, MatchesTable, Sees, TreesMatch, ViewMatches, views_of, without_trees}
 use Rattle.fleet_poll.specs.declared.poll.Poll.{Poll}
 use Rattle.fleet_poll.specs.Steps.{MayBegin, SeesStale, freed_unless}
 use Rattle.fleet_coordinator.specs.Polling.{GetsPoll, MayPoll, ask_of}
@@ -66,7 +66,7 @@ table_there (table ∷ tables) id h there = by (table.0 == id) there (table_ther
     by false there rest = rest there
 
 module _ (tables : Tables) (sound : AllByRecursion (λ table. IsTable table.1) tables) where
-  handle_known : (handle : SsTableHandle) → IsDescribed tables handle → IsTold tables handle
+  handle_known : (handle : SsTableHandle) → IsDescribed tables handle → MatchesTable tables handle
   handle_known handle is =
       let rows = table_rows tables handle.id in
       let table = table_there tables handle.id sound is.put in
@@ -76,21 +76,21 @@ module _ (tables : Tables) (sound : AllByRecursion (λ table. IsTable table.1) t
         rising = ap (λ (h : Handle). is_le (key_cmp h.first_key h.last_key)) is.describes ∙ first_up_to_last rows table.some table.ordered;
       }
 
-  trees_known : (core : ManifestCore) → AllByRecursion (NamesTable tables) (views_in core) → TreesTold tables core
+  trees_known : (core : ManifestCore) → AllByRecursion (NamesTable tables) (views_in core) → TreesMatch tables core
   trees_known core named =
-      all_unflat (ViewTold tables) (λ (t : List ℕ × LsmTreeState). views_of t.1) (trees_with_prefix core)
+      all_unflat (ViewMatches tables) (λ (t : List ℕ × LsmTreeState). views_of t.1) (trees_with_prefix core)
       (all_to _ _ (views_in core) (λ view there named. record { identity = named.identity; handle = handle_known view.sst named.described }) named)
 
-  jobs_known : (jobs : List JobParts) → AllByRecursion (IsDescribed tables) (flat_map job_handles jobs) → JobsTold tables jobs
-  jobs_known jobs described = all_unflat (IsTold tables) job_handles jobs (all_to _ _ (flat_map job_handles jobs) (λ handle there is. handle_known handle is) described)
+  jobs_known : (jobs : List JobParts) → AllByRecursion (IsDescribed tables) (flat_map job_handles jobs) → JobsMatch tables jobs
+  jobs_known jobs described = all_unflat (MatchesTable tables) job_handles jobs (all_to _ _ (flat_map job_handles jobs) (λ handle there is. handle_known handle is) described)
 
--- Trees whose tables are as `TreesTold` says name put tables, and so do jobs.
-pub trees_named : (tables : Tables) (core : ManifestCore) → TreesTold tables core → AllByRecursion (NamesTable tables) (views_in core)
+-- Trees whose tables are as `TreesMatch` says name put tables, and so do jobs.
+pub trees_named : (tables : Tables) (core : ManifestCore) → TreesMatch tables core → AllByRecursion (NamesTable tables) (views_in core)
 trees_named tables core matched =
     all_flat (NamesTable tables) (λ (t : List ℕ × LsmTreeState). views_of t.1) (trees_with_prefix core)
     (all_to _ _ (trees_with_prefix core) (λ t there views. all_to _ _ (views_of t.1) (λ view one is. record { identity = is.identity; described = record { put = is.handle.put; describes = is.handle.describes } }) views) matched)
 
-pub jobs_described : (tables : Tables) (jobs : List JobParts) → JobsTold tables jobs → AllByRecursion (IsDescribed tables) (flat_map job_handles jobs)
+pub jobs_described : (tables : Tables) (jobs : List JobParts) → JobsMatch tables jobs → AllByRecursion (IsDescribed tables) (flat_map job_handles jobs)
 jobs_described tables jobs matched =
     all_flat (IsDescribed tables) job_handles jobs (all_to _ _ jobs (λ job there handles. all_to _ _ (job_handles job) (λ handle one is. record { put = is.put; describes = is.describes }) handles) matched)
 

@@ -126,7 +126,8 @@ pub record GetsPoll (epoch : ℕ) (old new : StoreView) (got : GotPoll) : Type 0
   pub leaves : new.world ≡ after_call old.who.line old.who.party (Plain GetRecords) None found
   pub leads : (ask : PollAsk) (left seen : ℕ) (again : ℕ → Course (StepEnd PollState)) → ask.epoch ≡ epoch
       → Leads (poll_try ask left seen again) old
-      (polls_over ask found.store.tables shown.store.manifest (records_or_none found.store.records) (suc left) seen again)
+      (polls_over ask found.store.tables shown.store.manifest (records_or_none found.store.records) (suc left) seen
+      again)
       new
   pub begun : (flushes : RunFlushes) → poll_of flushes got.poll
       ≡ poll_begun (trees_of flushes got.core) got.core.horizon (jobs_of (own_jobs got.poll.state))

@@ -53,11 +53,11 @@ pub record RefusesRange (merge : Operator) (rows : List Row) (made : JobRows) (e
   pub operator : IsOfOperator merge rows e
 
 -- If the error is not out of memory, the range is refused as `RefusesRange` says.
-abbrev pub RefusesRangeUnless : Operator → List Row → JobRows → SlateDBError → Type 0
+abbrev pub RefusesRangeUnless : (merge : Operator) (rows : List Row) (made : JobRows) (e : SlateDBError) → Type 0
 RefusesRangeUnless merge rows made e = e ≢ Memory → RefusesRange merge rows made e
 
 -- If the error is not out of memory, what is left of this range of a job is refused as `RefusesRange` says.
-abbrev pub RefusesJobRange : Operator → Sources → RangeJob → SlateDBError → Type 0
+abbrev pub RefusesJobRange : (merge : Operator) (sources : Sources) (job : RangeJob) (e : SlateDBError) → Type 0
 RefusesJobRange merge sources job e = RefusesRangeUnless merge (rows_read sources job) (made_of merge sources job) e
 
 -- What is left of a range of a job is finished as `IsFinished` says, or refused as `RefusesJobRange` says.
@@ -91,5 +91,6 @@ pub record RefusesFirst (merge : Operator) (sources : Sources) (jobs : List Rang
   pub refuses : RefusesRange merge (rows_read sources job) (made_of merge sources job) e
 
 -- If the error is not out of memory, a range is refused as `RefusesFirst` says.
-abbrev pub RefusesFirstUnless : Operator → Sources → List RangeJob → SlateDBError → Type 0
+abbrev pub RefusesFirstUnless : (merge : Operator) (sources : Sources) (jobs : List RangeJob) (e : SlateDBError)
+    → Type 0
 RefusesFirstUnless merge sources jobs e = e ≢ Memory → RefusesFirst merge sources jobs e

@@ -28,7 +28,7 @@ abbrev pub active_job_with : ℕ → List ActiveParts → Option ActiveParts
 active_job_with id jobs = find (λ job. job.args.id == id) jobs
 
 -- Under every other id stands the job that stood there before, or still none.
-abbrev pub OthersStay : ℕ → List ActiveParts → List ActiveParts → Type 0
+abbrev pub OthersStay : (id : ℕ) (old new : List ActiveParts) → Type 0
 OthersStay id old new = (other : ℕ) → other ≢ id → active_job_with other new ≡ active_job_with other old
 
 -- The job with this id is changed so, and each other job stays. Ids and their order stay too.

@@ -1,8 +1,8 @@
-pub mod Attempts
-pub mod Cut
 pub mod ExecutorParts
 pub mod Executors
+pub mod Attempts
 pub mod Ranges
-pub mod Tables
 pub mod Taking
+pub mod Cut
+pub mod Tables
 pub mod Turns

@@ -34,7 +34,8 @@ pub record AreSources (sources : Sources) : Type 0 where
   pub apart : AreApart (flat_map source_rows sources)
 
 -- What a job makes of the rows of a range that are left after a cursor.
-abbrev pub left_of : Operator → Settings → Range → Option Cursor → Sources → JobRows
+abbrev pub left_of : (merge : Operator) (settings : Settings) (range : Range) (cursor : Option Cursor)
+    (sources : Sources) → JobRows
 left_of merge settings range cursor sources = made_of_sources merge settings range cursor (map source_rows sources)
 
 -- What a job makes of the rows of this range that are left after its cursor.

@@ -41,11 +41,13 @@ pub record RefusesTable (merge : Operator) (settings : Settings) (cursor : Optio
       → length (left_after cursor (job_rows merge settings (filter (is_below r.key) rows)).rows) < most) rows
 
 -- If the error is not out of memory, the table is refused as `RefusesTable` says.
-abbrev pub RefusesTableUnless : Operator → Settings → Option Cursor → List Row → JobRows → ℕ → SlateDBError → Type 0
+abbrev pub RefusesTableUnless : (merge : Operator) (settings : Settings) (cursor : Option Cursor) (rows : List Row)
+    (made : JobRows) (most : ℕ) (e : SlateDBError) → Type 0
 RefusesTableUnless merge settings cursor rows made most e =
     e ≢ Memory → RefusesTable merge settings cursor rows made most e
 
 -- If the error is not out of memory, the next table of this range of a job is refused as `RefusesTable` says.
-abbrev pub RefusesJobTable : Operator → Sources → RangeJob → ℕ → SlateDBError → Type 0
+abbrev pub RefusesJobTable : (merge : Operator) (sources : Sources) (job : RangeJob) (most : ℕ) (e : SlateDBError)
+    → Type 0
 RefusesJobTable merge sources job most e = RefusesTableUnless merge (settings_of job.settings) job.cursor
     (rows_read sources job) (made_of merge sources job) most e

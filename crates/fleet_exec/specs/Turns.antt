@@ -97,7 +97,7 @@ pub record IsBegun (merge : Operator) (settings : Settings) (sources : Sources) 
   pub after : begun.job.cursor ≡ cursor_after None (rows_of_all begun.taken)
 
 -- A begun range together with the tables in which a call finishes it. The call cuts tables at this size.
-abbrev pub finished_at : Operator → Sources → ℕ → BegunRange → RangeTurns
+abbrev pub finished_at : (merge : Operator) (sources : Sources) (size : ℕ) (begun : BegunRange) → RangeTurns
 finished_at merge sources size begun =
     record {
       range = range_of begun.job.range;

@@ -57,7 +57,8 @@ impl Executor {
         requires floor { ForNone args.ctx (IsSome args.retention_min_seq) }
         requires few { max_subcompactions < 2 ^ 32 }
         ensures started { OnOk result (OnFalse self.old.stopped
-            (IsSomeAnd (active_job_with args.id self.new.jobs) (StartsAs args max_subcompactions))) }
+            (IsSomeAnd (active_job_with args.id self.new.jobs)
+            (StartsAs args max_subcompactions))) }
         ensures others { OthersStay args.id self.old.jobs self.new.jobs }
         ensures count { OnOk result (OnFalse self.old.stopped
             (length self.new.jobs ≡ length self.old.jobs + 1)) }

@@ -29,7 +29,8 @@ fn range_iterators<'s>(
     range: &'s BytesRange,
 ) -> Result<Vec<RunIterator<'s>>, SlateDBError>
     ensures rows { IfOk result
-        (λ iterators. map state_of iterators.items ≡ opened_states (range_of range.now) sources.now) }
+        (λ iterators. map state_of iterators.items
+        ≡ opened_states (range_of range.now) sources.now) }
     ensures memory { IsOkUnless result SlateDBError.Memory }
 {
     let mut iterators = Vec::with_capacity(alloc, sources.len())?;

@@ -14,7 +14,7 @@ use Rattle.fleet_book.specs.declared.compactions.Compactions.{Compactions}
 use Rattle.fleet_store.specs.Handles.{IsDescribed}
 use Rattle.fleet_store.specs.Records.{DescribeTables}
 use Rattle.fleet_store.proofs.Described.{kept_describe}
-use Rattle.fleet_finish.specs.Puts.{AreShown, EndsRecords, Outputs, compacted, ended_record, unrecorded_of}
+use Rattle.fleet_finish.specs.Puts.{AreShown, EndsRecords, Outputs, compacted_record, ended_record, unrecorded_of}
 use Rattle.fleet_finish.specs.declared.put.EndedAttempt.{EndedAttempt}
 
 -- ---- lists
@@ -44,7 +44,7 @@ module _ (attempt : EndedAttempt) (outputs : Outputs) where
   same_id : (job : JobParts) → (ended job).id ≡ job.id
   same_id job = by (attempt.job == job.id)
     where
-      by : (b : Bool) → (cond b (compacted attempt outputs job) job).id ≡ job.id
+      by : (b : Bool) → (cond b (compacted_record attempt outputs job) job).id ≡ job.id
       by true = refl
       by false = refl
 
@@ -54,7 +54,7 @@ module _ (attempt : EndedAttempt) (outputs : Outputs) where
   model_job : (job : JobParts) → job_of (ended job) ≡ cond (contains (attempt.job ∷ []) job.id) (finished_by attempt.worker (unrecorded_of attempt) finished (job_of job)) (job_of job)
   model_job job = by (attempt.job == job.id)
     where
-      by : (b : Bool) → job_of (cond b (compacted attempt outputs job) job) ≡ cond (cond b true false) (finished_by attempt.worker (unrecorded_of attempt) finished (job_of job)) (job_of job)
+      by : (b : Bool) → job_of (cond b (compacted_record attempt outputs job) job) ≡ cond (cond b true false) (finished_by attempt.worker (unrecorded_of attempt) finished (job_of job)) (job_of job)
       by true = refl
       by false = refl
 
@@ -68,7 +68,7 @@ module _ (attempt : EndedAttempt) (outputs : Outputs) where
       joined (IsDescribed store.tables) (job_handles (ended job)) (flat_map job_handles (map ended jobs)) (by (attempt.job == job.id))
       (described_jobs store shown jobs (back (IsDescribed store.tables) (job_handles job) (flat_map job_handles jobs) all))
     where
-      by : (b : Bool) → AllByRecursion (IsDescribed store.tables) (job_handles (cond b (compacted attempt outputs job) job))
+      by : (b : Bool) → AllByRecursion (IsDescribed store.tables) (job_handles (cond b (compacted_record attempt outputs job) job))
       by true = flat (IsDescribed store.tables) outputs shown
       by false = front (IsDescribed store.tables) (job_handles job) (flat_map job_handles jobs) all
 

@@ -24,8 +24,8 @@ abbrev pub Outputs : Type 0
 Outputs = List (List SsTableHandle)
 
 -- The record of a job that the attempt has ended with these tables.
-abbrev pub compacted : EndedAttempt → Outputs → JobParts → JobParts
-compacted attempt outputs job = record (with_status Compacted job) {
+abbrev pub compacted_record : EndedAttempt → Outputs → JobParts → JobParts
+compacted_record attempt outputs job = record (with_status Compacted job) {
   worker = worker_at attempt.worker attempt.moment;
   ctx = None;
   outputs = outputs;
@@ -34,7 +34,7 @@ compacted attempt outputs job = record (with_status Compacted job) {
 
 -- The record of the job, ended if it is the job of the attempt.
 abbrev pub ended_record : EndedAttempt → Outputs → JobParts → JobParts
-ended_record attempt outputs job = if attempt.job == job.id then compacted attempt outputs job else job
+ended_record attempt outputs job = if attempt.job == job.id then compacted_record attempt outputs job else job
 
 -- What the history does not record of the end of the attempt: the moment, and the cut that the job keeps.
 abbrev pub unrecorded_of : EndedAttempt → Unrecorded

@@ -9,7 +9,7 @@ use Rattle.row_model.specs.Fold.{Operator, IsLawful}
 use Rattle.row_model.specs.FoldedRows.{opens_group, same_stamp, operand_groups, group_row, folded_chunk, cons_both, all_or_none}
 use Rattle.row_model.specs.Rows.{Row, is_operand}
 use Rattle.row_laws.specs.KeptReads.{IsFalling}
-use Rattle.row_laws.specs.Walks.{taken_rows, left}
+use Rattle.row_laws.specs.Walks.{taken_rows, left_after_group}
 use Rattle.row_laws.proofs.Elements.{all_weaken}
 use Rattle.row_laws.proofs.GroupReads.{and_left}
 use Rattle.row_laws.proofs.Walks.{groups_are_walked}
@@ -27,42 +27,42 @@ module _ (cut : ℕ) where
       ap (λ (others : List Row). if bytes_eq r.key q.key && same_stamp r.expires q.expires then q ∷ (if is_operand q then others else []) else []) (joining_taken r rows keys.1)
       ∙ ap (λ (b : Bool). if b && same_stamp r.expires q.expires then q ∷ (if is_operand q then taken_rows r.expires rows else []) else []) ((bytes_eq-Decides r.key q.key).1 (sym keys.0))
 
-  after_left : (merge : Operator) (stamp : Option ℤ) (rows : List Row) → folded_after merge (job_rule cut) (length (taken_rows stamp rows)) rows ≡ folded_after merge (job_rule cut) 0 (left stamp rows)
+  after_left : (merge : Operator) (stamp : Option ℤ) (rows : List Row) → folded_after merge (job_rule cut) (length (taken_rows stamp rows)) rows ≡ folded_after merge (job_rule cut) 0 (left_after_group stamp rows)
   after_left merge stamp [] = refl
   after_left merge stamp (q ∷ rows) = by (same_stamp stamp q.expires) (is_operand q) (after_left merge stamp rows)
     where
-      by : (same operand : Bool) → folded_after merge (job_rule cut) (length (taken_rows stamp rows)) rows ≡ folded_after merge (job_rule cut) 0 (left stamp rows)
+      by : (same operand : Bool) → folded_after merge (job_rule cut) (length (taken_rows stamp rows)) rows ≡ folded_after merge (job_rule cut) 0 (left_after_group stamp rows)
           → folded_after merge (job_rule cut) (length (if same then q ∷ (if operand then taken_rows stamp rows else []) else [])) (q ∷ rows)
-          ≡ folded_after merge (job_rule cut) 0 (if same then (if operand then left stamp rows else rows) else q ∷ rows)
+          ≡ folded_after merge (job_rule cut) 0 (if same then (if operand then left_after_group stamp rows else rows) else q ∷ rows)
       by true true rest = rest
       by true false rest = refl
       by false operand rest = refl
 
-left_shorter : (stamp : Option ℤ) (rows : List Row) → length (left stamp rows) ≤ length rows
+left_shorter : (stamp : Option ℤ) (rows : List Row) → length (left_after_group stamp rows) ≤ length rows
 left_shorter stamp [] = omega arith
 left_shorter stamp (q ∷ rows) = by (same_stamp stamp q.expires) (is_operand q) (left_shorter stamp rows)
   where
-    by : (same operand : Bool) → length (left stamp rows) ≤ length rows → length (if same then (if operand then left stamp rows else rows) else q ∷ rows) ≤ length (q ∷ rows)
+    by : (same operand : Bool) → length (left_after_group stamp rows) ≤ length rows → length (if same then (if operand then left_after_group stamp rows else rows) else q ∷ rows) ≤ length (q ∷ rows)
     by true true rest = omega arith
     by true false rest = omega arith
     by false operand rest = omega arith
 
 -- The rows left after a group are the end of the rows.
 module _ (stamp : Option ℤ) where
-  left_all : (P : Row → Type 0) (rows : List Row) → AllByRecursion P rows → AllByRecursion P (left stamp rows)
+  left_all : (P : Row → Type 0) (rows : List Row) → AllByRecursion P rows → AllByRecursion P (left_after_group stamp rows)
   left_all P [] all = tt
   left_all P (q ∷ rows) all = by (same_stamp stamp q.expires) (is_operand q) (left_all P rows all.1)
     where
-      by : (same operand : Bool) → AllByRecursion P (left stamp rows) → AllByRecursion P (if same then (if operand then left stamp rows else rows) else q ∷ rows)
+      by : (same operand : Bool) → AllByRecursion P (left_after_group stamp rows) → AllByRecursion P (if same then (if operand then left_after_group stamp rows else rows) else q ∷ rows)
       by true true rest = rest
       by true false rest = all.1
       by false operand rest = all
 
-  left_falls : (rows : List Row) → IsFalling rows → IsFalling (left stamp rows)
+  left_falls : (rows : List Row) → IsFalling rows → IsFalling (left_after_group stamp rows)
   left_falls [] falling = tt
   left_falls (q ∷ rows) falling = by (same_stamp stamp q.expires) (is_operand q) (left_falls rows falling.1)
     where
-      by : (same operand : Bool) → IsFalling (left stamp rows) → IsFalling (if same then (if operand then left stamp rows else rows) else q ∷ rows)
+      by : (same operand : Bool) → IsFalling (left_after_group stamp rows) → IsFalling (if same then (if operand then left_after_group stamp rows else rows) else q ∷ rows)
       by true true rest = rest
       by true false rest = falling.1
       by false operand rest = falling
@@ -78,11 +78,11 @@ module _ (merge : Operator) (lawful : IsLawful merge) (cut : ℕ) where
 
   -- If a row opens a group and the rows after the group fold as in the model, the row and all rows after
   -- it do.
-  first_opens : (r : Row) (rows : List Row) → opens_group cut r ≡ true → IsFalling (r ∷ rows) → AllByRecursion (λ q. q.key ≡ r.key) rows → IsFolded (left r.expires rows) → IsFolded (r ∷ rows)
+  first_opens : (r : Row) (rows : List Row) → opens_group cut r ≡ true → IsFalling (r ∷ rows) → AllByRecursion (λ q. q.key ≡ r.key) rows → IsFolded (left_after_group r.expires rows) → IsFolded (r ∷ rows)
   first_opens r rows opened falling keys rest =
       let rule = job_rule cut in
       let stamp = r.expires in
-      let others = left stamp rows in
+      let others = left_after_group stamp rows in
       ap (λ (b : Bool). map result_ok (if b then merged_group merge (r, joining rule r rows) ∷ folded_after merge rule (length (joining rule r rows)) rows else Ok r ∷ answers rows)) opened
       ∙ (ap (λ (xs : List Row). map result_ok (merged_group merge (r, xs) ∷ folded_after merge rule (length xs) rows)) (joining_taken cut r rows keys)
       ∙ (ap (λ (later : List (Result Row SlateDBError)). map result_ok (merged_group merge (r, taken_rows stamp rows) ∷ later)) (after_left cut merge stamp rows)
@@ -96,7 +96,7 @@ module _ (merge : Operator) (lawful : IsLawful merge) (cut : ℕ) where
   first_passes r rows closed falling rest =
       let rule = job_rule cut in
       let stamp = r.expires in
-      let others = left stamp rows in
+      let others = left_after_group stamp rows in
       ap (λ (b : Bool). map result_ok (if b then merged_group merge (r, joining rule r rows) ∷ folded_after merge rule (length (joining rule r rows)) rows else Ok r ∷ answers rows)) closed
       ∙ (ap (λ (later : List (Option Row)). Some r ∷ later) rest
       ∙ (ap (λ (b : Bool). (if b then group_row merge (r, []) else Some r) ∷ map (folded_chunk merge cut) (operand_groups cut rows)) (sym closed)
@@ -110,10 +110,10 @@ module _ (merge : Operator) (lawful : IsLawful merge) (cut : ℕ) where
   of_key (suc fuel) key (r ∷ rows) short falling keys =
       let shorter = left_shorter r.expires rows in
       by (opens_group cut r) refl
-      (of_key fuel key (left r.expires rows) (omega arith) (left_falls r.expires rows falling.1) (left_all r.expires (λ q. q.key ≡ key) rows keys.1))
+      (of_key fuel key (left_after_group r.expires rows) (omega arith) (left_falls r.expires rows falling.1) (left_all r.expires (λ q. q.key ≡ key) rows keys.1))
       (of_key fuel key rows (omega arith) falling.1 keys.1)
     where
-      by : (b : Bool) → opens_group cut r ≡ b → IsFolded (left r.expires rows) → IsFolded rows → IsFolded (r ∷ rows)
+      by : (b : Bool) → opens_group cut r ≡ b → IsFolded (left_after_group r.expires rows) → IsFolded rows → IsFolded (r ∷ rows)
       by true opened after rest = first_opens r rows opened falling (all_weaken (λ q. q.key ≡ key) (λ q. q.key ≡ r.key) (λ q h. h ∙ sym keys.0) rows keys.1) after
       by false closed after rest = first_passes r rows closed falling rest
 

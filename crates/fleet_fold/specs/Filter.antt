@@ -24,7 +24,7 @@ abbrev pub Closing : Type 0
 Closing = List Row → Result (Unit {0}) CompactionFilterError
 
 -- The answer is the stated one, or the error `Memory`.
-abbrev pub IsStated : {A : Type 0} → Result A CompactionFilterError → Result A CompactionFilterError → Type 0
+abbrev pub IsStated : {A : Type 0} → (stated answer : Result A CompactionFilterError) → Type 0
 IsStated stated answer = answer ≢ Err filter.Memory → answer ≡ stated
 
 -- A filter was shown row `r`. It now answers to later rows, and when it is closed, what it would have

@@ -24,7 +24,7 @@ opens rule r = is_operand r && is_within rule.snapshot_barrier_seq r.seq
 
 -- Whether a row belongs to the group with this key and expiry. It has the key, and the same expiry unless the
 -- rule merges different ones.
-abbrev pub same_group : GroupRule → List ℕ → Option ℤ → Row → Bool
+abbrev pub same_group : (rule : GroupRule) (key : List ℕ) (stamp : Option ℤ) (q : Row) → Bool
 same_group rule key stamp q =
     bytes_eq key q.key && (if rule.merge_different_expire_ts then true else same_stamp stamp q.expires)
 

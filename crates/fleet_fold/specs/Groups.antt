@@ -43,7 +43,7 @@ pub record GathersUpTo (most : ℕ) (merge : Operator) (first : Row) (taken : Li
   pub room : length pending ≤ most
 
 -- The group has gathered these operands, and fewer than a full batch of them wait to be merged.
-abbrev pub Gathers : Operator → Row → List Row → Group → Type 0
+abbrev pub Gathers : (merge : Operator) (first : Row) (taken : List Row) (g : Group) → Type 0
 Gathers merge first taken g = GathersUpTo 99 merge first taken g
 
 -- The group has its first row, and the operands `taken` after it. All of its operands are merged.
@@ -95,7 +95,7 @@ abbrev pub RefusesFlush : Operator → Group → SlateDBError → Type 0
 RefusesFlush merge g e = e ≢ Memory → left_to_merge (pending_answer merge g) g.batch.items ≡ Err e ∷ []
 
 -- If the operands that wait to be merged fill a batch, they are merged.
-abbrev pub FlushesFull : Operator → Group → Group → Type 0
+abbrev pub FlushesFull : (merge : Operator) (old new : Group) → Type 0
 FlushesFull merge old new = (first : Row) (taken : List Row) → GathersUpTo batch_len merge first taken old
     → Gathers merge first taken new
 
@@ -104,16 +104,16 @@ RefusesFull merge g e = (first : Row) (taken later : List Row) → GathersUpTo b
     → RefusesAs (merged_group merge (first, taken ++ later)) e
 
 -- The group takes one more operand, which waits to be merged and may fill a batch.
-abbrev pub Pushes : Group → Row → Group → Type 0
+abbrev pub Pushes : (old : Group) (r : Row) (new : Group) → Type 0
 Pushes old r new = (merge : Operator) (first : Row) (taken : List Row) → Gathers merge first taken old
     → GathersUpTo batch_len merge first (taken ++ r ∷ []) new
 
 -- The group takes one more operand, and a batch that this one fills is merged.
-abbrev pub Adds : Operator → Group → Row → Group → Type 0
+abbrev pub Adds : (merge : Operator) (old : Group) (r : Row) (new : Group) → Type 0
 Adds merge old r new = (first : Row) (taken : List Row) → Gathers merge first taken old
     → Gathers merge first (taken ++ r ∷ []) new
 
-abbrev pub RefusesAdd : Operator → Group → Row → SlateDBError → Type 0
+abbrev pub RefusesAdd : (merge : Operator) (g : Group) (r : Row) (e : SlateDBError) → Type 0
 RefusesAdd merge g r e = (first : Row) (taken later : List Row) → Gathers merge first taken g
     → RefusesAs (merged_group merge (first, taken ++ r ∷ later)) e
 
@@ -122,11 +122,11 @@ abbrev pub with_value : Group → Content → Row
 with_value g content = record { key = g.key; content = content; seq = g.seq; created = g.created; expires = g.expires }
 
 -- The group becomes a row, over the base if there is one.
-abbrev pub Closes : Operator → Group → List Row → Row → Type 0
+abbrev pub Closes : (merge : Operator) (g : Group) (base : List Row) (r : Row) → Type 0
 Closes merge g base r = (first : Row) (taken : List Row) → Gathers merge first taken g
     → merged_group merge (first, taken ++ base) ≡ Ok r
 
-abbrev pub RefusesClose : Operator → Group → List Row → SlateDBError → Type 0
+abbrev pub RefusesClose : (merge : Operator) (g : Group) (base : List Row) (e : SlateDBError) → Type 0
 RefusesClose merge g base e = (first : Row) (taken : List Row) → Gathers merge first taken g
     → RefusesAs (merged_group merge (first, taken ++ base)) e
 
@@ -172,11 +172,13 @@ pub record RefusesReading {A : Type 0} (answer : Result A SlateDBError) (old new
   pub merged : new.failure ≡ None → RefusesAs answer e
 
 -- What refuses the group that a row opens: the inner iterator, or the merge of the group.
-abbrev pub RefusesGroup : Operator → GroupRule → Row → IteratorState → IteratorState → SlateDBError → Type 0
+abbrev pub RefusesGroup : (merge : Operator) (rule : GroupRule) (first : Row) (old new : IteratorState)
+    (e : SlateDBError) → Type 0
 RefusesGroup merge rule first old new e =
     RefusesReading (merged_group merge (first, joining rule first old.rows)) old new e
 
-abbrev pub RefusesRows : Operator → GroupRule → Group → IteratorState → IteratorState → SlateDBError → Type 0
+abbrev pub RefusesRows : (merge : Operator) (rule : GroupRule) (g : Group) (old new : IteratorState) (e : SlateDBError)
+    → Type 0
 RefusesRows merge rule g old new e = (first : Row) → Gathers merge first [] g → RefusesGroup merge rule first old new e
 
 -- The group that a row opens becomes row `r`.

@@ -7,11 +7,11 @@ use Rattle.fleet_fold.specs.declared.retention.RetentionIterator.{RetentionItera
 use Rattle.fleet_fold.specs.Merging as merging
 use Rattle.fleet_fold.specs.State as retention
 
-abbrev pub state_of : {O T : Type 0} → (O → List ℕ) → (List ℕ → Operator) → (T → IteratorState)
-    → RetentionIterator (MergeOperatorIterator O T) → IteratorState
+abbrev pub state_of : {O T : Type 0} → (settings : O → List ℕ) (merged : List ℕ → Operator) (state : T → IteratorState)
+    (job : RetentionIterator (MergeOperatorIterator O T)) → IteratorState
 state_of settings merged state job = retention.state_of (merging.state_of settings merged state) job
 
-abbrev pub IsSound : {O T : Type 0} → (O → List ℕ) → (List ℕ → Operator) → (T → Type 0)
-    → (T → IteratorState) → RetentionIterator (MergeOperatorIterator O T) → Type 0
+abbrev pub IsSound : {O T : Type 0} → (settings : O → List ℕ) (merged : List ℕ → Operator) (sound : T → Type 0)
+    (state : T → IteratorState) (job : RetentionIterator (MergeOperatorIterator O T)) → Type 0
 IsSound settings merged sound state job =
     retention.IsSound (merging.IsSound settings merged sound state) (merging.state_of settings merged state) job

@@ -129,7 +129,7 @@ pub record GivesJob (merge : Operator) (settings : Settings) (rows : List Row) (
 -- If no fold refuses, the rows given read as the source rows do: each key, at each sequence from the cut on,
 -- and at each moment from the tick on. Any rows may come before them. Any rows may come after them, unless
 -- the last run is made.
-abbrev pub KeepsReads : Operator → Settings → List Row → IteratorState → Type 0
+abbrev pub KeepsReads : (merge : Operator) (settings : Settings) (rows : List Row) (s : IteratorState) → Type 0
 KeepsReads merge settings rows s = s.whole ≡ true → (key : List ℕ) (seq : ℕ) (now : ℤ) (above below : List Row)
     → settings.cut ≤ seq → int_le settings.tick now ≡ true → (settings.last_run ≡ true → below ≡ [])
     → read merge key seq now (above ++ (rows_of_key key rows ++ below))

@@ -1,11 +1,11 @@
 pub mod Filter
 pub mod FilterState
 pub mod Folded
+pub mod Retention
 pub mod Groups
 pub mod Jobs
-pub mod JobState
 pub mod Merging
+pub mod State
+pub mod JobState
 pub mod Operator
 pub mod Required
-pub mod Retention
-pub mod State

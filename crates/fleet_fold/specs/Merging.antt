@@ -15,7 +15,8 @@ use Rattle.fleet_fold.specs.declared.merging.MergeOperatorIterator.{MergeOperato
 
 -- The state of an iterator that merges operands. Its rows are those that the groups become, up to the first
 -- error.
-abbrev pub merging : Option SlateDBError → Operator → GroupRule → Option RowEntry → IteratorState → IteratorState
+abbrev pub merging : (failure : Option SlateDBError) (merge : Operator) (rule : GroupRule) (ahead : Option RowEntry)
+    (inner : IteratorState) → IteratorState
 merging failure merge rule ahead inner =
     let f = folded_groups merge rule (from_ahead ahead inner) in
     record {
@@ -37,13 +38,13 @@ ReadsGroups merge rule (Some e) ahead inner = ⊤
 ReadsGroups merge rule None ahead inner = (inner.failure ≡ None)
     × ((ahead ≡ None → ⊥) → inner.initialised ≡ true) × RisesIfRefused merge rule (from_ahead ahead inner)
 
-abbrev pub state_of : {O T : Type 0} → (O → List ℕ) → (List ℕ → Operator) → (T → IteratorState)
-    → MergeOperatorIterator O T → IteratorState
+abbrev pub state_of : {O T : Type 0} → (settings : O → List ℕ) (merged : List ℕ → Operator) (state : T → IteratorState)
+    (i : MergeOperatorIterator O T) → IteratorState
 state_of settings merged state i =
     merging i.failure (merged (settings i.operator.now)) i.rule i.ahead (state i.delegate)
 
-abbrev pub IsSound : {O T : Type 0} → (O → List ℕ) → (List ℕ → Operator) → (T → Type 0)
-    → (T → IteratorState) → MergeOperatorIterator O T → Type 0
+abbrev pub IsSound : {O T : Type 0} → (settings : O → List ℕ) (merged : List ℕ → Operator) (sound : T → Type 0)
+    (state : T → IteratorState) (i : MergeOperatorIterator O T) → Type 0
 IsSound settings merged sound state i =
     sound i.delegate × ReadsGroups (merged (settings i.operator.now)) i.rule i.failure i.ahead (state i.delegate)
 
@@ -54,8 +55,9 @@ pub record SeeksGroups (sought : List ℕ → IteratorState → Type 0) (merge :
   pub stays : is_left key ahead ≡ true → new ≡ merging None merge rule ahead inner
   pub goes_on : is_left key ahead ≡ false → SoughtThrough sought (merging None merge rule None) inner key new
 
-abbrev pub Sought : {O T : Type 0} → (O → List ℕ) → (List ℕ → Operator) → (T → IteratorState)
-    → (T → List ℕ → IteratorState → Type 0) → MergeOperatorIterator O T → List ℕ → IteratorState → Type 0
+abbrev pub Sought : {O T : Type 0} → (settings : O → List ℕ) (merged : List ℕ → Operator) (state : T → IteratorState)
+    (sought : T → List ℕ → IteratorState → Type 0) (i : MergeOperatorIterator O T) (key : List ℕ) (new : IteratorState)
+    → Type 0
 Sought settings merged state sought i key new =
     SeeksGroups (sought i.delegate) (merged (settings i.operator.now)) i.rule i.ahead (state i.delegate) key new
 

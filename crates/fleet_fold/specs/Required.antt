@@ -54,6 +54,6 @@ pub record MissesOperator (rows : List Row) (old inner : IteratorState)
       → starts_with_operand rows ≡ true → answer ≡ Err MergeOperatorMissing
 
 -- What a seek of an iterator that refuses operands leaves.
-abbrev pub Sought : {T : Type 0} → (T → IteratorState) → (T → List ℕ → IteratorState → Type 0)
-    → MergeOperatorRequiredIterator T → List ℕ → IteratorState → Type 0
+abbrev pub Sought : {T : Type 0} → (state : T → IteratorState) (sought : T → List ℕ → IteratorState → Type 0)
+    (r : MergeOperatorRequiredIterator T) (key : List ℕ) (new : IteratorState) → Type 0
 Sought state sought r key new = SoughtThrough (sought r.delegate) (without_operands None) (state r.delegate) key new

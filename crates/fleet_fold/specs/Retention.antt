@@ -100,8 +100,8 @@ pub record RefusesFill (settings : Settings) (buffer : List RowEntry) (ahead : O
       → (rows_of buffer ++ kept_given settings old.whole (from_ahead ahead old) ≡ []) × (e ≡ after)
 
 -- The state of retention. Its rows are the kept ones in the buffer, and what it will keep of the other rows.
-abbrev pub retained_state : Option SlateDBError → Settings → List RowEntry → Option RowEntry → IteratorState
-    → IteratorState
+abbrev pub retained_state : (failure : Option SlateDBError) (settings : Settings) (buffer : List RowEntry)
+    (ahead : Option RowEntry) (inner : IteratorState) → IteratorState
 retained_state failure settings buffer ahead inner =
     record {
       rows = rows_of buffer ++ kept_given settings inner.whole (from_ahead ahead inner);

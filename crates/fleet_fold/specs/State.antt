@@ -12,7 +12,7 @@ abbrev pub IsSound : {T : Type 0} → (T → Type 0) → (T → IteratorState) �
 IsSound sound state r = sound r.inner × Knows r.failure (reverse r.buffer.items) r.ahead (state r.inner)
 
 -- What a seek of a retention iterator leaves.
-abbrev pub Sought : {T : Type 0} → (T → IteratorState) → (T → List ℕ → IteratorState → Type 0)
-    → RetentionIterator T → List ℕ → IteratorState → Type 0
+abbrev pub Sought : {T : Type 0} → (state : T → IteratorState) (sought : T → List ℕ → IteratorState → Type 0)
+    (r : RetentionIterator T) (key : List ℕ) (new : IteratorState) → Type 0
 Sought state sought r key new =
     SeeksKept (sought r.inner) (settings_of r.settings) (reverse r.buffer.items) r.ahead (state r.inner) key new

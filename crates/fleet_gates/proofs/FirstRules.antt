@@ -8,7 +8,7 @@ use Rattle.fleet_model.specs.Nodes.{Trees, names, names_contain, tree_at}
 use Rattle.fleet_model.specs.Trees.{source_pieces}
 use Rattle.fleet_rows.specs.declared.errors.SlateDBError.{SlateDBError}
 use Rattle.fleet_gates.specs.Laws.{SchedulersAreAskedLast}
-use Rattle.fleet_gates.specs.Rules.{accept_each, asked_last, numbered}
+use Rattle.fleet_gates.specs.Rules.{accept_each, asked_last, rule_number}
 use Rattle.fleet_gates.specs.declared.rule.Rule.{Rule}
 
 -- A rule that fails in front is the first one that fails.
@@ -64,9 +64,9 @@ submit_fails trees jobs lost accepts job rule fails = ap (asked_last (accepts jo
 
 -- If all other rules hold, the scheduler decides.
 pub submit_asks : (trees : Trees) (jobs : Jobs) (lost : List ℕ) (accepts : JobSpec → Bool) (job : Job) (spec : JobSpec) (r : Result (Option Rule) SlateDBError) → spec ≡ job.spec
-    → None ≡ submit_gate trees jobs lost accept_each job → IfOk r (λ rule. numbered rule ≡ asked_last (accepts spec) None) → IfOk r (λ rule. numbered rule ≡ submit_gate trees jobs lost accepts job)
+    → None ≡ submit_gate trees jobs lost accept_each job → IfOk r (λ rule. rule_number rule ≡ asked_last (accepts spec) None) → IfOk r (λ rule. rule_number rule ≡ submit_gate trees jobs lost accepts job)
 submit_asks trees jobs lost accepts job spec r same passes decided =
-    subst (λ failing. IfOk r (λ rule. numbered rule ≡ failing))
+    subst (λ failing. IfOk r (λ rule. rule_number rule ≡ failing))
     (ap (λ s. asked_last (accepts s) None) same ∙ ap (asked_last (accepts job.spec)) passes ∙ sym (schedulers_are_asked_last.submit trees jobs lost accepts job))
     decided
 
@@ -74,8 +74,8 @@ pub commit_fails : (trees : Trees) (accepts : JobSpec → Bool) (job : Job) (rul
 commit_fails trees accepts job rule fails = ap (asked_last (accepts job.spec)) fails ∙ sym (schedulers_are_asked_last.commit trees accepts job)
 
 pub commit_asks : (trees : Trees) (accepts : JobSpec → Bool) (job : Job) (spec : JobSpec) (r : Result (Option Rule) SlateDBError) → spec ≡ job.spec
-    → None ≡ commit_gate trees accept_each job → IfOk r (λ rule. numbered rule ≡ asked_last (accepts spec) None) → IfOk r (λ rule. numbered rule ≡ commit_gate trees accepts job)
+    → None ≡ commit_gate trees accept_each job → IfOk r (λ rule. rule_number rule ≡ asked_last (accepts spec) None) → IfOk r (λ rule. rule_number rule ≡ commit_gate trees accepts job)
 commit_asks trees accepts job spec r same passes decided =
-    subst (λ failing. IfOk r (λ rule. numbered rule ≡ failing))
+    subst (λ failing. IfOk r (λ rule. rule_number rule ≡ failing))
     (ap (λ s. asked_last (accepts s) None) same ∙ ap (asked_last (accepts job.spec)) passes ∙ sym (schedulers_are_asked_last.commit trees accepts job))
     decided

@@ -10,7 +10,7 @@ use Rattle.fleet_model.specs.Sources.{is_apart}
 use Rattle.fleet_jobs.specs.Places.{held_nodes}
 
 -- The job touches none of these nodes exactly if it touches no node that another job holds.
-abbrev pub Decides : List NodeName → Jobs → List ℕ → Job → Type 0
+abbrev pub Decides : (nodes : List NodeName) (jobs : Jobs) (lost : List ℕ) (job : Job) → Type 0
 Decides nodes jobs lost job = is_apart (nodes_of job.spec) nodes ≡ is_free jobs lost job
 
 -- These are the nodes that the jobs hold, in any order.
@@ -19,7 +19,8 @@ AreHeld nodes jobs lost = (name : NodeName) → names_contain nodes name ≡ nam
 
 -- No job with this id holds nodes.
 abbrev pub HoldsNone : Jobs → List ℕ → ℕ → Type 0
-HoldsNone jobs lost id = AllByRecursion (λ other. (id == other.id) ≡ true → (reserves_nodes other || contains lost other.id) ≡ false) jobs
+HoldsNone jobs lost id =
+    AllByRecursion (λ other. (id == other.id) ≡ true → (reserves_nodes other || contains lost other.id) ≡ false) jobs
 
 -- The job, or one with its id and its spec, is among the jobs, and none with its id has another spec.
 pub record IsAmong (job : Job) (jobs : Jobs) : Type 0 where

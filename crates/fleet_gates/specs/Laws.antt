@@ -14,11 +14,13 @@ HeldNodesAreHeld = (jobs : Jobs) (lost : List ℕ) → AreHeld (held_nodes jobs 
 
 -- The nodes that jobs hold decide rule 8 for a job whose id is not that of a job that holds nodes.
 abbrev pub HeldNodesDecide : Type 0
-HeldNodesDecide = (nodes : List NodeName) (jobs : Jobs) (lost : List ℕ) (job : Job) → AreHeld nodes jobs lost → HoldsNone jobs lost job.id → Decides nodes jobs lost job
+HeldNodesDecide = (nodes : List NodeName) (jobs : Jobs) (lost : List ℕ) (job : Job)
+    → AreHeld nodes jobs lost → HoldsNone jobs lost job.id → Decides nodes jobs lost job
 
 -- A job that is opened holds its nodes from then on.
 abbrev pub OpenedJobsHoldTheirNodes : Type 0
-OpenedJobsHoldTheirNodes = (tables_of : JobSpec → List ℕ) (nodes : List NodeName) (jobs : Jobs) (lost : List ℕ) (job : Job)
+OpenedJobsHoldTheirNodes = (tables_of : JobSpec → List ℕ) (nodes : List NodeName) (jobs : Jobs) (lost : List ℕ)
+    (job : Job)
     → AreHeld nodes jobs lost → IsAmong job jobs
     → AreHeld (nodes ++ nodes_of job.spec) (changed_jobs (to_scheduled tables_of) (job.id ∷ []) jobs) lost
 
@@ -40,5 +42,7 @@ pub record EndedJobsHoldNone : Type 0 where
 -- Each gate asks the scheduler last, and only if all other rules hold.
 pub record SchedulersAreAskedLast : Type 0 where
   pub submit : (trees : Trees) (jobs : Jobs) (lost : List ℕ) (accepts : JobSpec → Bool) (job : Job)
-      → submit_gate trees jobs lost accepts job ≡ asked_last (accepts job.spec) (submit_gate trees jobs lost accept_each job)
-  pub commit : (trees : Trees) (accepts : JobSpec → Bool) (job : Job) → commit_gate trees accepts job ≡ asked_last (accepts job.spec) (commit_gate trees accept_each job)
+      → submit_gate trees jobs lost accepts job
+      ≡ asked_last (accepts job.spec) (submit_gate trees jobs lost accept_each job)
+  pub commit : (trees : Trees) (accepts : JobSpec → Bool) (job : Job)
+      → commit_gate trees accepts job ≡ asked_last (accepts job.spec) (commit_gate trees accept_each job)

@@ -20,15 +20,15 @@ number_of own.SourceTables = 10
 number_of own.Scheduler = 0
 
 -- The number of the rule, if there is one.
-abbrev pub numbered : Option Rule → Option ℕ
-numbered rule = option_map number_of rule
+abbrev pub rule_number : Option Rule → Option ℕ
+rule_number rule = option_map number_of rule
 
 -- Accepts each job.
 abbrev pub accept_each : JobSpec → Bool
 accept_each spec = true
 
 -- The rules for a submitted job on these trees and among these jobs, if the scheduler accepts each job.
-abbrev pub rules_for : Trees → Jobs → List ℕ → Job → List (ℕ × Bool)
+abbrev pub rules_for : (trees : Trees) (jobs : Jobs) (lost : List ℕ) (job : Job) → List (ℕ × Bool)
 rules_for trees jobs lost job = submitted_rules trees jobs lost accept_each job (tree_at job.spec.segment trees)
 
 -- The rule that fails, given whether the scheduler accepts the job and the first other rule that fails. The scheduler

@@ -12,5 +12,6 @@ abbrev pub shown_trees : RunFlushes → CompactorStateView → Trees
 shown_trees flushes view = trees_of flushes view.manifest.manifest.core
 
 -- Whether the scheduler accepts a job on the view.
-abbrev pub accepted_on : RunFlushes → CompactorStateView → Scheduler → JobSpec → Bool
+abbrev pub accepted_on : (flushes : RunFlushes) (view : CompactorStateView) (scheduler : Scheduler) (spec : JobSpec)
+    → Bool
 accepted_on flushes view scheduler spec = scheduler.validate (view_of flushes view) spec

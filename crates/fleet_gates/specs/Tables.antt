@@ -33,11 +33,6 @@ tables_of tree (OfRun id) = tables_if_there (run_views id tree)
 abbrev pub tables_in : LsmTreeState → List SourceId → List ℕ
 tables_in tree sources = flat_map (tables_of tree) sources
 
--- The first one, or the second one if there is no first.
-abbrev pub first_of : {A : Type 0} → Option A → Option A → Option A
-first_of None second = second
-first_of (Some first) second = Some first
-
 -- The maps have the tables of the flushes and the views of the runs of a tree.
 pub record HasTables (flushes : BTreeMap ℕ ℕ) (runs : BTreeMap ℕ (Bor (List View))) (tree : LsmTreeState) : Type 0 where
   pub flush : (id : ℕ) → get nat_cmp flushes id ≡ flush_table id tree.l0

@@ -10,7 +10,7 @@ ghost use Rattle.fleet_tree.specs.Trees.{RunFlushes, trees_of};
 ghost use Rattle.fleet_jobs.specs.Jobs.{job_of};
 ghost use Rattle.fleet_jobs.specs.Sources.{name_of};
 ghost use Rattle.fleet_jobs.specs.Specs.{segment_of, sources_of, spec_of};
-ghost use Rattle.fleet_gates.specs.Rules.{accept_each, numbered};
+ghost use Rattle.fleet_gates.specs.Rules.{accept_each, rule_number};
 ghost use Rattle.fleet_gates.specs.Shown.{accepted_on, shown_trees};
 
 use crate::{Rule, scheduler_rule, source_tables};
@@ -32,7 +32,7 @@ pub fn commit_gate(
     view: &CompactorStateView,
     job: &Compaction,
 ) -> Result<Option<Rule>, SlateDBError>
-    ensures rule { (flushes : RunFlushes) → IfOk result (λ rule. numbered rule
+    ensures rule { (flushes : RunFlushes) → IfOk result (λ rule. rule_number rule
         ≡ commit_gate (shown_trees flushes view.now)
         (accepted_on flushes view.now (answers scheduler.now)) (job_of job.now)) }
     ensures memory { IsOkUnless result SlateDBError.Memory }
@@ -49,7 +49,7 @@ pub fn commit_rules(
     core: &ManifestCore,
     job: &Compaction,
 ) -> Result<Option<Rule>, AllocError>
-    ensures { (flushes : RunFlushes) → IfOk result (λ rule. numbered rule
+    ensures { (flushes : RunFlushes) → IfOk result (λ rule. rule_number rule
         ≡ commit_gate (trees_of flushes core.now) accept_each (job_of job.now)) }
 {
     if !has_sources(alloc, core, job.spec())? {

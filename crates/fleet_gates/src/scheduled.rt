@@ -3,7 +3,7 @@
 ghost use Rattle.std.specs.Prelude.{◌≡◌, IfOk, IsOkUnless, None};
 ghost use Rattle.fleet_tree.specs.Trees.{RunFlushes};
 ghost use Rattle.fleet_jobs.specs.Specs.{spec_of};
-ghost use Rattle.fleet_gates.specs.Rules.{asked_last, numbered};
+ghost use Rattle.fleet_gates.specs.Rules.{asked_last, rule_number};
 ghost use Rattle.fleet_gates.specs.Shown.{accepted_on};
 
 use crate::Rule;
@@ -20,7 +20,7 @@ pub fn scheduler_rule(
     view: &CompactorStateView,
     spec: &CompactionSpec,
 ) -> Result<Option<Rule>, SlateDBError>
-    ensures rule { (flushes : RunFlushes) → IfOk result (λ rule. numbered rule ≡ asked_last
+    ensures rule { (flushes : RunFlushes) → IfOk result (λ rule. rule_number rule ≡ asked_last
         (accepted_on flushes view.now (answers scheduler.now) (spec_of spec.now)) None) }
     ensures memory { IsOkUnless result SlateDBError.Memory }
 {

@@ -10,7 +10,7 @@ ghost use Rattle.fleet_jobs.specs.Jobs.{job_of};
 ghost use Rattle.fleet_jobs.specs.Sources.{name_of};
 ghost use Rattle.fleet_jobs.specs.Specs.{segment_of, sources_of, spec_of};
 ghost use Rattle.fleet_gates.specs.Held.{Decides};
-ghost use Rattle.fleet_gates.specs.Rules.{accept_each, numbered, rules_for};
+ghost use Rattle.fleet_gates.specs.Rules.{accept_each, rule_number, rules_for};
 ghost use Rattle.fleet_gates.specs.Shown.{accepted_on, shown_trees};
 
 use crate::{Rule, scheduler_rule};
@@ -45,7 +45,7 @@ pub fn submit_gate(
 ) -> Result<Option<Rule>, SlateDBError>
     ensures rule { (flushes : RunFlushes) (jobs : Jobs) (lost : List ℕ)
         → Decides held.now jobs lost (job_of job.now)
-        → IfOk result (λ rule. numbered rule
+        → IfOk result (λ rule. rule_number rule
         ≡ submit_gate (shown_trees flushes view.now) jobs lost
         (accepted_on flushes view.now (answers scheduler.now)) (job_of job.now)) }
     ensures memory { IsOkUnless result SlateDBError.Memory }
@@ -66,7 +66,7 @@ pub fn submit_rules(
 ) -> Result<Option<Rule>, AllocError>
     ensures { (flushes : RunFlushes) (jobs : Jobs) (lost : List ℕ)
         → Decides held.now jobs lost (job_of job.now)
-        → IfOk result (λ rule. numbered rule
+        → IfOk result (λ rule. rule_number rule
         ≡ submit_gate (trees_of flushes core.now) jobs lost accept_each (job_of job.now)) }
 {
     if let Some(rule) = spec_rule(alloc, job)? {
@@ -80,7 +80,7 @@ pub fn submit_rules(
 
 // The first of the rules 1 and 2 that the job fails.
 fn spec_rule(alloc: Global, job: &Compaction) -> Result<Option<Rule>, AllocError>
-    ensures { (trees : Trees) (jobs : Jobs) (lost : List ℕ) → IfOk result (λ rule. numbered rule
+    ensures { (trees : Trees) (jobs : Jobs) (lost : List ℕ) → IfOk result (λ rule. rule_number rule
         ≡ first_failing (take 2 (rules_for trees jobs lost (job_of job.now)))) }
 {
     if !has_distinct_sources(alloc, job.spec())? {
@@ -115,7 +115,7 @@ fn tree_rule(
     job: &Compaction,
 ) -> Result<Option<Rule>, AllocError>
     ensures { (flushes : RunFlushes) (jobs : Jobs) (lost : List ℕ) → IfOk result
-        (λ rule. numbered rule ≡ first_failing
+        (λ rule. rule_number rule ≡ first_failing
         (take 4 (drop 2 (rules_for (trees_of flushes core.now) jobs lost (job_of job.now))))) }
 {
     if !has_tree(core, job.spec()) {
@@ -140,7 +140,7 @@ fn place_rule(
 ) -> Result<Option<Rule>, AllocError>
     ensures { (trees : Trees) (jobs : Jobs) (lost : List ℕ)
         → names (tree_at (segment_of job.now.spec) trees) ≡ map name_of nodes.now
-        → IfOk result (λ rule. numbered rule
+        → IfOk result (λ rule. rule_number rule
         ≡ first_failing (take 3 (drop 3 (rules_for trees jobs lost (job_of job.now))))) }
 {
     let spec = job.spec();
@@ -182,7 +182,7 @@ fn drops_older(alloc: Global, spec: &CompactionSpec, nodes: &[SourceId]) -> Resu
 // The first of the rules 7 and 8 that the job fails.
 fn target_rule(core: &ManifestCore, held: &NodeSet, job: &Compaction) -> Option<Rule>
     ensures { (flushes : RunFlushes) (jobs : Jobs) (lost : List ℕ)
-        → Decides held.now jobs lost (job_of job.now) → numbered result
+        → Decides held.now jobs lost (job_of job.now) → rule_number result
         ≡ first_failing
         (drop 6 (rules_for (trees_of flushes core.now) jobs lost (job_of job.now))) }
 {

@@ -1,5 +1,6 @@
 //! The tables of the sources of a job.
 
+ghost use Rattle.std.specs.Option.{option_or};
 ghost use Rattle.std.specs.Prelude.{◌≡◌, ◌==◌, ◌++◌, ℕ, map, option_map, IfOk, None, OnOk, Some, if◌then◌else◌};
 ghost use Rattle.std.specs.BTreeMap.{get};
 ghost use Rattle.std.specs.Option.{option_copied, option_to_list};
@@ -10,7 +11,7 @@ ghost use Rattle.fleet_tree.specs.declared.tree.LsmTreeState.{LsmTreeState};
 ghost use Rattle.fleet_jobs.specs.Laws.{view_tables};
 ghost use Rattle.fleet_jobs.specs.Specs.{spec_of};
 ghost use Rattle.fleet_jobs.specs.Taken.{run_with};
-ghost use Rattle.fleet_gates.specs.Tables.{HasTables, first_of, flush_table, tables_if_there, tables_in, tables_of};
+ghost use Rattle.fleet_gates.specs.Tables.{HasTables, flush_table, tables_if_there, tables_in, tables_of};
 
 use fleet_jobs::{CompactionSpec, SourceId};
 use fleet_rows::Ulid;
@@ -64,7 +65,7 @@ fn flush_tables(alloc: Global, views: &FlushList) -> Result<BTreeMap<Ulid, Ulid>
 
 // Adds the table of a flush, unless there is one of a flush with its id.
 fn add_flush(tables: &mut BTreeMap<Ulid, Ulid>, view: &SsTableView) -> Result<(), AllocError>
-    ensures { OnOk result ((id : ℕ) → get nat_cmp tables.new id ≡ first_of
+    ensures { OnOk result ((id : ℕ) → get nat_cmp tables.new id ≡ option_or
         (get nat_cmp tables.old id)
         (if view.now.id == id then Some view.now.sst.id else None)) }
 {
@@ -94,7 +95,7 @@ fn add_run<'a>(
     tables: &mut BTreeMap<u32, &'a [SsTableView]>,
     run: &'a SortedRun,
 ) -> Result<(), AllocError>
-    ensures { OnOk result ((id : ℕ) → option_copied (get nat_cmp tables.new id) ≡ first_of
+    ensures { OnOk result ((id : ℕ) → option_copied (get nat_cmp tables.new id) ≡ option_or
         (option_copied (get nat_cmp tables.old id))
         (if run.now.id == id then Some run.now.views else None)) }
 {

@@ -8,7 +8,7 @@ use Rattle.fleet_model.specs.Nodes.{Run}
 use Rattle.script_model.specs.Bounds.{AreNodes}
 use Rattle.script_model.specs.Script.{Line, Options, ReadKey, IsInBounds, AreLines}
 use Rattle.script_model.specs.Grammars.{full_grammar, is_options}
-use Rattle.script_model.specs.Generated.{drawn, state_after, made_in_turn, generated_content, generated_row, generated_flush, generated_sources, generated_job, generated_round, generated}
+use Rattle.script_model.specs.Generated.{draw_below, state_after, made_in_turn, generated_content, generated_row, generated_flush, generated_sources, generated_job, generated_round, generated_lines}
 use Rattle.fleet_generate.specs.Laws.{GeneratedCount, GeneratedIsScript, GeneratedKinds, is_of_generated_kind}
 
 -- If what is made at each number in a range has a property, each thing made in turn there has it.
@@ -29,13 +29,13 @@ all_joined P (list ∷ lists) h = all_appended P list (flat_map (λ list. list) 
 
 -- ---- rows
 
-drawn_below : (x : ℕ) → drawn 256 x < 256
+drawn_below : (x : ℕ) → draw_below 256 x < 256
 drawn_below x = omega arith
 
 content_fits : (kind x : ℕ) → IsContent (generated_content kind x).0
 content_fits kind x = by (kind == 3) (kind == 2)
   where
-    by : (b c : Bool) → IsContent (if◌then◌else◌ {A = Content × ℕ} b (Tombstone, x) (if◌then◌else◌ {A = Content × ℕ} c (Merge (drawn 256 x ∷ []), state_after x) (Value (drawn 256 x ∷ []), state_after x))).0
+    by : (b c : Bool) → IsContent (if◌then◌else◌ {A = Content × ℕ} b (Tombstone, x) (if◌then◌else◌ {A = Content × ℕ} c (Merge (draw_below 256 x ∷ []), state_after x) (Value (draw_below 256 x ∷ []), state_after x))).0
     by true c = tt
     by false true = ((drawn_below x, tt), omega arith)
     by false false = ((drawn_below x, tt), omega arith)
@@ -44,7 +44,7 @@ row_fits : (seq t x : ℕ) → seq < 2 ^ 64 → t < 4 → IsRow (generated_row s
 unfolding generated_row
 row_fits seq t x s p = record {
   key = ((omega (arith, p), tt), omega arith, omega arith);
-  content = content_fits (drawn 4 (state_after x)) (state_after (state_after x));
+  content = content_fits (draw_below 4 (state_after x)) (state_after (state_after x));
   seq = s;
   created = tt;
   expires = tt;
@@ -89,14 +89,14 @@ round_fits k x h =
     let flushes = made_in_turn (generated_flush (3 * k)) 3 (3 * k + 1) x in
     let flushes_fit : AllByRecursion IsGeneratedLine flushes.0 =
     each_made IsGeneratedLine (generated_flush (3 * k)) (3 * k + 1) (3 * k + 4) (λ n y low high. flush_fits (3 * k) n y (omega (arith, h)) (omega (arith, low)) (omega (arith, high, h))) 3 (3 * k + 1) x (omega arith) (omega arith) in
-    let read_fits : IsGeneratedLine (ReadKey [] (drawn 256 flushes.1 ∷ []) (3 * k + 3) (pos 0)) =
+    let read_fits : IsGeneratedLine (ReadKey [] (draw_below 256 flushes.1 ∷ []) (3 * k + 3) (pos 0)) =
     (((tt, omega arith), ((drawn_below flushes.1, tt), omega arith, omega arith), omega (arith, h), omega arith), refl) in
     all_appended IsGeneratedLine (flushes.0 ++ generated_job k) _ (all_appended IsGeneratedLine flushes.0 (generated_job k) flushes_fit (job_fits k h)) (read_fits, tt)
 
 -- ---- scripts
 
-generated_fit : (number rounds : ℕ) → rounds ≤ 2000 → AllByRecursion IsGeneratedLine (generated number rounds)
-unfolding generated
+generated_fit : (number rounds : ℕ) → rounds ≤ 2000 → AllByRecursion IsGeneratedLine (generated_lines number rounds)
+unfolding generated_lines
 generated_fit number rounds h =
     ((omega arith, refl), (((omega arith, tt), refl), all_joined IsGeneratedLine _ (each_made (AllByRecursion IsGeneratedLine) generated_round 0 2000 (λ k x low high. round_fits k x high) rounds 0 number (omega arith) (omega (arith, h)))))
 
@@ -109,14 +109,14 @@ each_kind [] h = tt
 each_kind (line ∷ lines) h = (h.0.1, each_kind lines h.1)
 
 pub are_of_kinds : GeneratedKinds
-are_of_kinds number rounds h = each_kind (generated number rounds) (generated_fit number rounds h)
+are_of_kinds number rounds h = each_kind (generated_lines number rounds) (generated_fit number rounds h)
 
 lines_fit : (before lines : List Line) → AllByRecursion IsGeneratedLine lines → AreLines full_grammar before lines
 lines_fit before [] h = tt
 lines_fit before (line ∷ lines) h = ((h.0.0, λ options. absurd (no_options line h.0.1 options)), lines_fit (before ++ line ∷ []) lines h.1)
 
 pub is_script : GeneratedIsScript
-is_script number rounds h = record { whole = refl; each = lines_fit [] (generated number rounds) (generated_fit number rounds h) }
+is_script number rounds h = record { whole = refl; each = lines_fit [] (generated_lines number rounds) (generated_fit number rounds h) }
 
 -- ---- the count of lines
 
@@ -134,5 +134,5 @@ rounds_count (suc count) first x =
     omega (arith, both, round_count first x, rounds_count count (first + 1) (generated_round first x).1)
 
 pub count_of_lines : GeneratedCount
-unfolding generated
+unfolding generated_lines
 count_of_lines number rounds = omega (arith, rounds_count rounds 0 number)

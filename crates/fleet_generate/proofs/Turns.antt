@@ -7,7 +7,7 @@ use Rattle.std.specs.Fmt.{digits, decimal}
 use Rattle.row_model.specs.Rows.{Row}
 use Rattle.script_model.specs.Words.{row_text, rows_text, comma}
 use Rattle.script_model.specs.Script.{Line, ReadKey, spelt_line, script_text}
-use Rattle.script_model.specs.Generated.{state_after, drawn, made_in_turn, generated_row, generated_flush, generated_job, generated_round, generated}
+use Rattle.script_model.specs.Generated.{state_after, draw_below, made_in_turn, generated_row, generated_flush, generated_job, generated_round, generated_lines}
 
 -- The first thing is made, and then the others.
 first_made : {A : Type 0} (make : ℕ → ℕ → A × ℕ) (count first x : ℕ)
@@ -77,13 +77,13 @@ rows_spelt name x y z old first out begun moved (all, end) =
 
 -- The text of a round, from those of its flushes, its job and its read on.
 pub round_spelt : (k x y z : ℕ) (old one two out : List ℕ) → (one ≡ old ++ script_text (made_in_turn (generated_flush (3 * k)) 3 (3 * k + 1) x).0) × (y ≡ (made_in_turn (generated_flush (3 * k)) 3 (3 * k + 1) x).1)
-    → two ≡ one ++ script_text (generated_job k) → out ≡ two ++ spelt_line (ReadKey [] (drawn 256 y ∷ []) (3 * k + 3) (pos 0)) → z ≡ state_after y
+    → two ≡ one ++ script_text (generated_job k) → out ≡ two ++ spelt_line (ReadKey [] (draw_below 256 y ∷ []) (3 * k + 3) (pos 0)) → z ≡ state_after y
     → (out ≡ old ++ script_text (generated_round k x).0) × (z ≡ (generated_round k x).1)
 unfolding generated_round
 round_spelt k x y z old one two out (flushed, moved) compacted read last =
     let flushes = made_in_turn (generated_flush (3 * k)) 3 (3 * k + 1) x in
     let job = generated_job k in
-    let line = λ (s : ℕ). ReadKey [] (drawn 256 s ∷ []) (3 * k + 3) (pos 0) in
+    let line = λ (s : ℕ). ReadKey [] (draw_below 256 s ∷ []) (3 * k + 3) (pos 0) in
     let r = line flushes.1 in
     let parts = script_text flushes.0 ++ script_text job in
     let whole : script_text ((flushes.0 ++ job) ++ r ∷ []) ≡ parts ++ spelt_line r =
@@ -105,8 +105,8 @@ text_of_rounds (lines ∷ rounds) = ap (λ t. script_text lines ++ t) (text_of_r
 
 -- The text of a script, from that of its rounds on.
 pub script_spelt : (number rounds : ℕ) (out : List ℕ) → out ≡ codes "start coordinator 1\nstart worker 1\n" ++ flat_map script_text (made_in_turn generated_round rounds 0 number).0
-    → out ≡ script_text (generated number rounds)
-unfolding digits generated
+    → out ≡ script_text (generated_lines number rounds)
+unfolding digits generated_lines
 script_spelt number rounds out is = is ∙ ap (λ t. codes "start coordinator 1\nstart worker 1\n" ++ t) (text_of_rounds (made_in_turn generated_round rounds 0 number).0)
 
 -- ---- numbers

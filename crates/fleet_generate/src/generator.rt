@@ -1,7 +1,7 @@
 //! Draws numbers, and appends the lines that they make.
 
 ghost use Rattle.std.specs.Prelude.{◌≡◌, ◌<◌, ◌++◌, [], ◌∷◌, pos, OnOk, string_bytes};
-ghost use Rattle.script_model.specs.Generated.{drawn, generated_content, generated_flush, generated_round, generated_row, made_in_turn, state_after};
+ghost use Rattle.script_model.specs.Generated.{draw_below, generated_content, generated_flush, generated_round, generated_row, made_in_turn, state_after};
 ghost use Rattle.script_model.specs.Script.{ReadKey, spelt_line, script_text};
 ghost use Rattle.script_model.specs.Words.{row_text, rows_text};
 ghost use Rattle.fleet_generate.specs.Spelling.{content_fields};
@@ -26,7 +26,7 @@ impl Generator {
     // Draws a number below `k`.
     fn draw(&mut self, k: u64) -> u64
         requires { 0 < k }
-        ensures number { result ≡ drawn k self.old.state }
+        ensures number { result ≡ draw_below k self.old.state }
         ensures state { self.new.state ≡ state_after self.old.state }
     {
         self.state = self
@@ -118,7 +118,7 @@ impl Generator {
     // Appends the read of a key, which is drawn.
     fn append_read(&mut self, alloc: Global, seq: u64, out: &mut String) -> Result<(), AllocError>
         ensures text { OnOk result (string_bytes out.new ≡ string_bytes out.old
-            ++ spelt_line (ReadKey [] (drawn 256 self.old.state ∷ []) seq (pos 0))) }
+            ++ spelt_line (ReadKey [] (draw_below 256 self.old.state ∷ []) seq (pos 0))) }
         ensures state { self.new.state ≡ state_after self.old.state }
     {
         let key = self.draw(256);

@@ -3,7 +3,7 @@
 ghost use Rattle.std.specs.Prelude.{◌≡◌, ◌≤◌, IfOk, IsOkUnless};
 ghost use Rattle.fleet_rows.specs.declared.errors.SlateDBError.TheVariants as SlateDBError;
 ghost use Rattle.script_model.specs.Script.{script_text};
-ghost use Rattle.script_model.specs.Generated.{generated};
+ghost use Rattle.script_model.specs.Generated.{generated_lines};
 
 use crate::generator::Generator;
 use fleet_rows::SlateDBError;
@@ -12,7 +12,8 @@ use std::alloc::Global;
 /// The text of a script of this many rounds. The number is the first state of the generator.
 pub fn make_script(alloc: Global, number: u64, rounds: u64) -> Result<Vec<u8>, SlateDBError>
     requires { rounds ≤ 2000 }
-    ensures script { IfOk result (λ text. text.items ≡ script_text (generated number rounds)) }
+    ensures script { IfOk result
+        (λ text. text.items ≡ script_text (generated_lines number rounds)) }
     ensures memory { IsOkUnless result SlateDBError.Memory }
 {
     let mut text = String::from_str(alloc, "start coordinator 1\nstart worker 1\n")?;

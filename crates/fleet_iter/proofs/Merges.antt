@@ -12,7 +12,7 @@ use Rattle.fleet_rows.specs.declared.row.RowEntry.{RowEntry}
 use Rattle.fleet_rows.specs.declared.errors.SlateDBError.{SlateDBError}
 use Rattle.fleet_iter.specs.Iteration.{IteratorState, Nexts, NextAnswers, CanFail, after_first, without_first, is_exact}
 use Rattle.fleet_iter.specs.declared.iterator.IterationOrder.{IterationOrder}
-use Rattle.fleet_iter.specs.Merge.{best, choose, goes_first, passes, merged_lists, merge_two, merge_into, merged_left, lists, rows_left, AllTaken, IsTaken, are_whole, are_steady, are_exact, manner, manners, OneFailedBy, Steps, Takes, Drops, AllBegun}
+use Rattle.fleet_iter.specs.Merge.{best, choose, goes_first, passes, merged_lists, merge_two, merge_into, merged_left, lists, rows_left, AllTaken, IsTaken, are_whole, are_steady, are_exact, manner, manners, OneFailedBy, NextGives, Takes, Drops, AllBegun}
 
 after_none : (order : IterationOrder) → (b : Option (ℕ × RowEntry)) → choose order None b ≡ None → b ≡ None
 after_none order None e = refl
@@ -98,7 +98,7 @@ pub record Refills (hs : List (Option RowEntry)) (ss : List IteratorState) (k : 
   pub taken : AllTaken (set hs k h) (set ss k t)
   pub same_manner : manners (set ss k t) ≡ manners ss
 
-pub refilled : (hs : List (Option RowEntry)) (ss : List IteratorState) → AllTaken hs ss → (k : ℕ) (x : RowEntry) → get_or hs k None ≡ Some x → (s t : IteratorState) (h : Option RowEntry) → s ≡ get_or ss k s → Steps s t h → Refills hs ss k t h
+pub refilled : (hs : List (Option RowEntry)) (ss : List IteratorState) → AllTaken hs ss → (k : ℕ) (x : RowEntry) → get_or hs k None ≡ Some x → (s t : IteratorState) (h : Option RowEntry) → s ≡ get_or ss k s → NextGives s t h → Refills hs ss k t h
 refilled [] ss a k x e s t h is st = absurd (cc)
 refilled (g ∷ hs) [] a k x e s t h is st = absurd a
 refilled (g ∷ hs) (r ∷ ss) a zero x e s t h is st =
@@ -110,7 +110,7 @@ refilled (g ∷ hs) (r ∷ ss) a (suc k) x e s t h is st =
     record { same = ap (λ (w : List (List Row)). (rows_of (option_to_list g) ++ r.rows) ∷ w) ih.same; taken = (a.0, ih.taken); same_manner = ap (λ (ms : List (Bool × Bool)). manner r ∷ ms) ih.same_manner }
 
 -- A step of a merge takes the least head and refills its place.
-pub takes_all : (order : IterationOrder) → (hs : List (Option RowEntry)) (ss : List IteratorState) → AllTaken hs ss → (k : ℕ) (x : RowEntry) → best order hs ≡ Some (k, x) → (s t : IteratorState) (h : Option RowEntry) → s ≡ get_or ss k s → Steps s t h → Takes order false hs ss (set hs k h) (set ss k t) (Some x)
+pub takes_all : (order : IterationOrder) → (hs : List (Option RowEntry)) (ss : List IteratorState) → AllTaken hs ss → (k : ℕ) (x : RowEntry) → best order hs ≡ Some (k, x) → (s t : IteratorState) (h : Option RowEntry) → s ≡ get_or ss k s → NextGives s t h → Takes order false hs ss (set hs k h) (set ss k t) (Some x)
 takes_all order hs ss a k x e s t h is st =
     let p = takes_head order hs ss a k x e in
     let q = refilled hs ss a k x (p.head None) s t h is st in
@@ -128,9 +128,9 @@ begun None s a = a.1
 begun (Some x) s a = a.1
 
 -- A source whose head was taken, and which answers `next`, has made a step.
-pub steps_of : (g : Option RowEntry) (s t : IteratorState) (h : Option RowEntry) → IsTaken g s → Nexts s t (Ok h) → Steps s t h
+pub steps_of : (g : Option RowEntry) (s t : IteratorState) (h : Option RowEntry) → IsTaken g s → Nexts s t (Ok h) → NextGives s t h
 steps_of g s t h a n = by_answer h (n.answers (clean g s a) (begun g s a)) where
-  by_answer : (h : Option RowEntry) → NextAnswers s t (Ok h) → Steps s t h
+  by_answer : (h : Option RowEntry) → NextAnswers s t (Ok h) → NextGives s t h
   by_answer None b =
       (ap (λ (z : IteratorState). z.rows) (sym b.same), (ap (λ (z : IteratorState). z.failure) b.same ∙ clean g s a, ap (λ (z : IteratorState). z.initialised) b.same ∙ begun g s a, ap (λ (z : IteratorState). z.rows) b.same ∙ b.rows, ap (λ (z : IteratorState). z.whole) b.same ∙ b.whole), ap manner b.same)
   by_answer (Some x) b = (ap (λ (z : IteratorState). z.rows) b, (sym (ap (λ (z : IteratorState). z.failure) b) ∙ clean g s a, sym (ap (λ (z : IteratorState). z.initialised) b) ∙ begun g s a), sym (ap manner b))
@@ -266,9 +266,9 @@ all_set P (y ∷ xs) (suc k) x h all = (all.0, all_set P xs k x h all.1)
 -- ---- the first rows
 
 -- A source that is initialised, and then answers `next`, has made a step.
-pub steps_first : (s i t : IteratorState) (h : Option RowEntry) → s.failure ≡ None → i ≡ record s { initialised = true } → Nexts i t (Ok h) → Steps s t h
+pub steps_first : (s i t : IteratorState) (h : Option RowEntry) → s.failure ≡ None → i ≡ record s { initialised = true } → Nexts i t (Ok h) → NextGives s t h
 steps_first s i t h alive is n = by_answer h (n.answers (ap (λ (z : IteratorState). z.failure) is ∙ alive) (ap (λ (z : IteratorState). z.initialised) is)) where
-  by_answer : (h : Option RowEntry) → NextAnswers i t (Ok h) → Steps s t h
+  by_answer : (h : Option RowEntry) → NextAnswers i t (Ok h) → NextGives s t h
   by_answer None b =
       let same : t ≡ record s { initialised = true } = b.same ∙ is in
       (sym (ap (λ (z : IteratorState). z.rows) same), (ap (λ (z : IteratorState). z.failure) same ∙ alive, ap (λ (z : IteratorState). z.initialised) same, ap (λ (z : IteratorState). z.rows) b.same ∙ b.rows, ap (λ (z : IteratorState). z.whole) b.same ∙ b.whole), ap manner same)
@@ -290,7 +290,7 @@ pub record More (hs : List (Option RowEntry)) (ss : List IteratorState) (k : ℕ
   pub same_manner : manners (set ss k t) ≡ manners ss
 
 -- If the next source's first row is taken as its head, that source has begun too, and no row is lost.
-pub begin_more : (hs : List (Option RowEntry)) (ss : List IteratorState) (k : ℕ) (s t : IteratorState) (h : Option RowEntry) → AllBegun hs ss → length hs ≡ k → k < length ss → s ≡ get_or ss k s → Steps s t h → More hs ss k t h
+pub begin_more : (hs : List (Option RowEntry)) (ss : List IteratorState) (k : ℕ) (s t : IteratorState) (h : Option RowEntry) → AllBegun hs ss → length hs ≡ k → k < length ss → s ≡ get_or ss k s → NextGives s t h → More hs ss k t h
 begin_more [] [] k s t h a n lt is st = absurd (omega arith)
 begin_more [] (r ∷ ss) zero s t h a n lt is st =
     let same : rows_of (option_to_list h) ++ t.rows ≡ r.rows = sym (ap (λ (z : IteratorState). z.rows) (sym is) ∙ st.0) in

@@ -16,7 +16,7 @@ use Rattle.fleet_iter.proofs.RisingMerges.{rising_merged}
 use Rattle.fleet_iter.proofs.Dedup.{from_key_skipped}
 use Rattle.fleet_iter.specs.declared.iterator.IterationOrder.{IterationOrder}
 use Rattle.fleet_iter.specs.declared.iterator.IterationOrder.TheVariants.{Ascending, Descending}
-use Rattle.fleet_iter.specs.Merge.{head_passes, merged_lists, lists, rows_left, merged_left, AllTaken, IsTaken, Steps, StepsFrom, SkipsTo, is_known, manner, manners, all_whole, all_steady, are_exact}
+use Rattle.fleet_iter.specs.Merge.{head_passes, merged_lists, lists, rows_left, merged_left, AllTaken, IsTaken, NextGives, NextGivesFrom, SkipsTo, is_known, manner, manners, all_whole, all_steady, are_exact}
 use Rattle.fleet_iter.proofs.SoughtMerges.{parts_rise, seek_merged}
 
 -- The lists, of which the first n are sought to the key.
@@ -126,27 +126,27 @@ source_rises order key i ls hs ss old g s lt k e f = by g (subst AreRising (list
     by None r = r
     by (Some x) r = r.1
 
-step_rises : (stated : Bool) (key : List ℕ) (s t : IteratorState) (h : Option RowEntry) → AreRising s.rows → StepsFrom stated key s t h → AreRising (rows_of (option_to_list h) ++ t.rows)
+step_rises : (stated : Bool) (key : List ℕ) (s t : IteratorState) (h : Option RowEntry) → AreRising s.rows → NextGivesFrom stated key s t h → AreRising (rows_of (option_to_list h) ++ t.rows)
 step_rises true key s t h rising st = subst AreRising st.0 (rising_from key s.rows rising)
 step_rises false key s t h rising st = st.1
 
-step_taken : (stated : Bool) (key : List ℕ) (s t : IteratorState) (h : Option RowEntry) → StepsFrom stated key s t h → IsTaken h t
+step_taken : (stated : Bool) (key : List ℕ) (s t : IteratorState) (h : Option RowEntry) → NextGivesFrom stated key s t h → IsTaken h t
 step_taken true key s t h st = st.1
 step_taken false key s t h st = st.0
 
 -- If the head is below the key, the source moves on to the key.
 pub sought_step : (order : IterationOrder) (key : List ℕ) (i : ℕ) (ls : List (List Row)) (hs : List (Option RowEntry)) (ss old : List IteratorState) (g h : Option RowEntry) (s t : IteratorState) → i < length ls → i < length ss → Sought order key i ls hs ss old
-    → g ≡ get_or hs i g → s ≡ get_or ss i s → head_passes (is_below key) g ≡ true → StepsFrom (is_known order (is_exact s)) key s t h → Sought order key (suc i) ls (set hs i h) (set ss i t) old
+    → g ≡ get_or hs i g → s ≡ get_or ss i s → head_passes (is_below key) g ≡ true → NextGivesFrom (is_known order (is_exact s)) key s t h → Sought order key (suc i) ls (set hs i h) (set ss i t) old
 sought_step order key i ls hs ss old g h s t lt lt2 k e f low st = record {
-  rows = λ stated. rows stated (subst (λ b. StepsFrom b key s t h) (one_known order key i ls hs ss old s lt2 f k stated) st);
+  rows = λ stated. rows stated (subst (λ b. NextGivesFrom b key s t h) (one_known order key i ls hs ss old s lt2 f k stated) st);
   rising = subst (AllByRecursion AreRising) (sym (lists_set hs ss k.taken i h t))
       (rising_set i (lists hs (rows_left ss)) (rows_of (option_to_list h) ++ t.rows) (step_rises (is_known order (is_exact s)) key s t h (source_rises order key i ls hs ss old g s lt2 k e f) st) k.rising);
   taken = taken_set hs ss k.taken i h t (step_taken (is_known order (is_exact s)) key s t h st);
-  same_manner = λ stated. let exact : Steps (record s { rows = from_key key s.rows }) t h = subst (λ b. StepsFrom b key s t h) (one_known order key i ls hs ss old s lt2 f k stated) st in manner_set ss i s t f exact.2 ∙ k.same_manner stated;
+  same_manner = λ stated. let exact : NextGives (record s { rows = from_key key s.rows }) t h = subst (λ b. NextGivesFrom b key s t h) (one_known order key i ls hs ss old s lt2 f k stated) st in manner_set ss i s t f exact.2 ∙ k.same_manner stated;
   later = λ j d le. get_later ss i j t d le ∙ k.later j d (omega (arith, le));
 }
   where
-    rows : is_known order (are_exact old) ≡ true → Steps (record s { rows = from_key key s.rows }) t h → lists (set hs i h) (rows_left (set ss i t)) ≡ sought key (suc i) ls
+    rows : is_known order (are_exact old) ≡ true → NextGives (record s { rows = from_key key s.rows }) t h → lists (set hs i h) (rows_left (set ss i t)) ≡ sought key (suc i) ls
     rows stated exact = by g refl low
       where
         here : get_or ls i [] ≡ rows_of (option_to_list g) ++ s.rows

@@ -18,12 +18,12 @@ order_cmp Descending Ascending = Greater
 order_cmp Descending Descending = Equal
 
 -- Keys are compared by their iteration order, and keys of one iteration order are compared in it.
-abbrev pub key_cmp_in : IterationOrder × List ℕ → IterationOrder × List ℕ → Ordering
+abbrev pub key_cmp_in : (a b : IterationOrder × List ℕ) → Ordering
 key_cmp_in a b = ordering_then (order_cmp a.0 b.0) (keys_in a.0 a.1 b.1)
 
 -- Entries are compared by iteration order, by key in it, by falling sequence, and then by the place of their
 -- source.
-abbrev pub entry_cmp : MergeIteratorHeapEntry → MergeIteratorHeapEntry → Ordering
+abbrev pub entry_cmp : (a b : MergeIteratorHeapEntry) → Ordering
 entry_cmp a b = ordering_then (key_cmp_in (a.order, a.row.key) (b.order, b.row.key))
     (ordering_then (nat_cmp b.row.seq a.row.seq) (nat_cmp a.index b.index))
 

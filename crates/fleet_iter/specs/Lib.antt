@@ -1,8 +1,8 @@
+pub mod Iteration
+pub mod Merge
 pub mod Entry
 pub mod Heads
-pub mod Iteration
 pub mod List
-pub mod Merge
 pub mod MergeState
 pub mod Peek
 pub mod PeekState

@@ -9,8 +9,9 @@ pub record Listed : Type 0 where
   pub processed : ℕ
 
 -- The state of an iterator with these rows left that needs no `init` and never fails.
-abbrev pub left : List Row → IteratorState
-left rows = record { rows = rows; initialised = true; failure = None; whole = true; steady = true; refusal = None }
+abbrev pub left_state : List Row → IteratorState
+left_state rows =
+    record { rows = rows; initialised = true; failure = None; whole = true; steady = true; refusal = None }
 
-abbrev pub giving : Listed → IteratorState
-giving l = left l.rows
+abbrev pub giving_state : Listed → IteratorState
+giving_state l = left_state l.rows

@@ -24,11 +24,11 @@ keys_in Ascending a b = key_cmp a b
 keys_in Descending a b = key_cmp b a
 
 -- Rows are compared by key in an iteration order, and rows of one key by falling sequence.
-abbrev pub cmp_in : IterationOrder → Row → Row → Ordering
+abbrev pub cmp_in : (order : IterationOrder) (a b : Row) → Ordering
 cmp_in order a b = ordering_then (keys_in order a.key b.key) (nat_cmp b.seq a.seq)
 
 -- Whether a row is before another one in an iteration order, or has the same key and sequence.
-abbrev pub goes_first : IterationOrder → Row → Row → Bool
+abbrev pub goes_first : (order : IterationOrder) (a b : Row) → Bool
 goes_first order a b = not (is_gt (cmp_in order a b))
 
 -- The merge of a list with a row and the rows after it. The function merges the rows after it with a list.
@@ -46,7 +46,7 @@ merged_lists order [] = []
 merged_lists order (rows ∷ lists) = merge_two order rows (merged_lists order lists)
 
 -- Whether a row hides a later one: both have the same key, and the first one is no operand.
-abbrev pub hides : Row → Row → Bool
+abbrev pub hides : (r q : Row) → Bool
 hides r q = not (is_operand r) && same_key r q
 
 -- The rows that dedup gives after a row that it has given. It leaves out each row that the row given last
@@ -142,8 +142,8 @@ abbrev pub are_exact : List IteratorState → Bool
 are_exact ss = are_steady ss && are_whole ss
 
 -- A step of a source: its first row becomes its next head. There is no head if no row is left.
-abbrev pub Steps : IteratorState → IteratorState → Option RowEntry → Type 0
-Steps s t h = (s.rows ≡ rows_of (option_to_list h) ++ t.rows) × IsTaken h t × (manner t ≡ manner s)
+abbrev pub NextGives : (s t : IteratorState) (h : Option RowEntry) → Type 0
+NextGives s t h = (s.rows ≡ rows_of (option_to_list h) ++ t.rows) × IsTaken h t × (manner t ≡ manner s)
 
 -- Whether it is known which rows a seek of a source leaves. In descending order it always is, since a merge
 -- then reads the source row by row instead of seeking it.
@@ -153,9 +153,9 @@ is_known Descending exact = true
 
 -- A step of a source to its first row at or after a key. If the flag is false, it is only known that the
 -- source's rows rise.
-abbrev pub StepsFrom : Bool → List ℕ → IteratorState → IteratorState → Option RowEntry → Type 0
-StepsFrom true key s t h = Steps (record s { rows = from_key key s.rows }) t h
-StepsFrom false key s t h = IsTaken h t × AreRising (rows_of (option_to_list h) ++ t.rows)
+abbrev pub NextGivesFrom : Bool → List ℕ → IteratorState → IteratorState → Option RowEntry → Type 0
+NextGivesFrom true key s t h = NextGives (record s { rows = from_key key s.rows }) t h
+NextGivesFrom false key s t h = IsTaken h t × AreRising (rows_of (option_to_list h) ++ t.rows)
 
 -- A step of a merge takes the first row that is given, and with dedup the rows that this one hides. If it
 -- takes no row, none is left and all sources are whole.
@@ -175,8 +175,8 @@ pub record Drops (order : IterationOrder) (hs : List (Option RowEntry)) (ss : Li
   pub same_manner : manners ss' ≡ manners ss
 
 -- Each source whose head is not below the key stays as it is, and so does its head.
-abbrev pub LeavesFrom : {T : Type 0} → List ℕ → List (Option RowEntry) → List T → List (Option RowEntry)
-    → List T → Type 0
+abbrev pub LeavesFrom : {T : Type 0} → (key : List ℕ) (hs : List (Option RowEntry)) (xs : List T)
+    (hs' : List (Option RowEntry)) (xs' : List T) → Type 0
 LeavesFrom key hs xs hs' xs' = (place : ℕ) (x : RowEntry)
     → slice_get hs place ≡ Some (Some x) → is_below key (row_of x) ≡ false
     → (slice_get hs' place ≡ Some (Some x)) × (slice_get xs' place ≡ slice_get xs place)
@@ -227,8 +227,8 @@ Fits None true hs ss = AllTaken hs ss
 Fits None false hs ss = (hs ≡ []) × NoneFailed ss
 
 -- The state of a merge with these flags, heads and sources.
-abbrev pub merging : IterationOrder → Bool → Bool → Option SlateDBError → List (Option RowEntry)
-    → List IteratorState → IteratorState
+abbrev pub merging : (order : IterationOrder) (dedup initialised : Bool) (failure : Option SlateDBError)
+    (hs : List (Option RowEntry)) (ss : List IteratorState) → IteratorState
 merging order dedup initialised failure hs ss =
     record {
       rows = given_rows dedup (merged_left order hs ss);

@@ -11,6 +11,6 @@ abbrev pub IsSound : {T : Type 0} → (T → Type 0) → (T → IteratorState) �
 IsSound sound state p = sound p.inner × HasBegun p.peeked (state p.inner)
 
 -- What a seek of a peeking iterator leaves.
-abbrev pub Sought : {T : Type 0} → (T → IteratorState) → (T → List ℕ → IteratorState → Type 0)
-    → PeekingIterator T → List ℕ → IteratorState → Type 0
+abbrev pub Sought : {T : Type 0} → (state : T → IteratorState) (sought : T → List ℕ → IteratorState → Type 0)
+    (p : PeekingIterator T) (key : List ℕ) (new : IteratorState) → Type 0
 Sought state sought p key new = SeeksAhead (sought p.inner) p.peeked (state p.inner) key new

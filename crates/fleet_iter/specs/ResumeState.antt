@@ -11,6 +11,6 @@ abbrev pub IsSound : {T : Type 0} → (T → Type 0) → (T → IteratorState) �
 IsSound sound state r = peek.IsSound sound state r.inner
 
 -- What a seek of a resumed iterator leaves.
-abbrev pub Sought : {T : Type 0} → (T → IteratorState) → (T → List ℕ → IteratorState → Type 0)
-    → ResumingIterator T → List ℕ → IteratorState → Type 0
+abbrev pub Sought : {T : Type 0} → (state : T → IteratorState) (sought : T → List ℕ → IteratorState → Type 0)
+    (r : ResumingIterator T) (key : List ℕ) (new : IteratorState) → Type 0
 Sought state sought r key new = peek.Sought state sought r.inner key new

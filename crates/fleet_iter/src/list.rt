@@ -3,7 +3,7 @@
 ghost use Rattle.std.specs.Prelude.{◌≡◌, ⊤, false, [], reverse};
 ghost use Rattle.fleet_rows.specs.Row.{rows_of};
 ghost use Rattle.fleet_iter.specs.Iteration.{Inits, Nexts, Seeks};
-ghost use Rattle.fleet_iter.specs.List.{left, giving};
+ghost use Rattle.fleet_iter.specs.List.{left_state, giving_state};
 ghost use Rattle.fleet_iter.specs.Tracked.{counted_bytes, taken_at_once};
 
 use crate::tracked::row_bytes;
@@ -25,7 +25,7 @@ impl EmptyIterator {
 }
 
 impl RowEntryIterator for EmptyIterator {
-    ghost state = { λ _. left [] };
+    ghost state = { λ _. left_state [] };
 
     ghost sound = { λ _. ⊤ };
 
@@ -73,14 +73,14 @@ impl ListIterator {
 }
 
 impl RowEntryIterator for ListIterator {
-    ghost state = { giving };
+    ghost state = { giving_state };
 
     ghost sound = { λ _. ⊤ };
 
     ghost processed = { λ l. l.processed };
 
     fn init(&mut self, _alloc: Global) -> Result<(), SlateDBError>
-        ensures init { Inits (giving self.old) (giving self.new) result }
+        ensures init { Inits (giving_state self.old) (giving_state self.new) result }
         ensures processed { self.new.processed ≡ self.old.processed }
     {
         Ok(())
@@ -88,7 +88,7 @@ impl RowEntryIterator for ListIterator {
 
     #[inline]
     fn next(&mut self, _alloc: Global) -> Result<Option<RowEntry>, SlateDBError>
-        ensures next { Nexts (giving self.old) (giving self.new) result }
+        ensures next { Nexts (giving_state self.old) (giving_state self.new) result }
         ensures processed { self.new.processed
             ≡ counted_bytes self.old.processed (taken_at_once false self.old.rows) }
     {
@@ -100,7 +100,7 @@ impl RowEntryIterator for ListIterator {
     }
 
     fn seek(&mut self, _alloc: Global, next_key: &[u8]) -> Result<(), SlateDBError>
-        ensures seek { Seeks next_key.now (giving self.old) (giving self.new) result }
+        ensures seek { Seeks next_key.now (giving_state self.old) (giving_state self.new) result }
         ensures processed { self.new.processed ≡ self.old.processed }
     {
         'below: while let Some(row) = self.rows.last()

@@ -6,7 +6,7 @@ ghost use Rattle.row_laws.specs.Keys.{is_below};
 ghost use Rattle.fleet_rows.specs.Row.{row_of};
 ghost use Rattle.fleet_iter.specs.Iteration.{IteratorState, Inits, Nexts, Seeks, CanFail, AreRising, from_key, is_exact};
 ghost use Rattle.fleet_iter.specs.declared.iterator.IterationOrder.TheVariants as in_order;
-ghost use Rattle.fleet_iter.specs.Merge.{cmp_in, hides, head_passes, AllTaken, Takes, Drops, Steps, Skips, SkipsTo, StepsFrom, is_known, Begins, LeavesFrom, NoneFailed, IsHandedOn, starting, merged_lists, merged_left, rows_left, given_rows, are_whole, are_exact, MergesSort, MergesRise};
+ghost use Rattle.fleet_iter.specs.Merge.{cmp_in, hides, head_passes, AllTaken, Takes, Drops, NextGives, Skips, SkipsTo, NextGivesFrom, is_known, Begins, LeavesFrom, NoneFailed, IsHandedOn, starting, merged_lists, merged_left, rows_left, given_rows, are_whole, are_exact, MergesSort, MergesRise};
 ghost use Rattle.fleet_iter.specs.Tracked.{row_bytes, first_bytes, kept_back, counted_bytes, taken_at_once};
 ghost use Rattle.fleet_iter.specs.MergeState.{state_of, merge_of, IsSound};
 
@@ -64,7 +64,7 @@ fn take_least<T: RowSource>(
 fn first_row<T: RowSource>(alloc: Global, source: &mut T) -> Result<Option<RowEntry>, SlateDBError>
     requires sound { T.sound source.old }
     requires alive { (T.state source.old).failure ≡ None }
-    ensures ok { IfOk result (Steps (T.state source.old) (T.state source.new)) }
+    ensures ok { IfOk result (NextGives (T.state source.old) (T.state source.new)) }
     ensures err { IfErr result (CanFail (T.state source.old).whole) }
     ensures handed { IfErr result (λ e. (T.state source.new).failure ≡ Some e) }
     ensures sound { T.sound source.new }
@@ -108,7 +108,8 @@ fn drop_least<T: RowSource>(
     ensures ok { IfOk result (λ _. Drops heads.old.order heads.old.rows
         (map T.state sources.old.items) heads.new.rows (map T.state sources.new.items)) }
     ensures bytes { IfOk result (λ bytes. bytes
-        ≡ first_bytes (merged_left heads.old.order heads.old.rows (map T.state sources.old.items))) }
+        ≡ first_bytes
+        (merged_left heads.old.order heads.old.rows (map T.state sources.old.items))) }
     ensures err { IfErr result (CanFail (are_whole (map T.state sources.old.items))) }
     ensures handed { IfErr result (IsHandedOn (map T.state sources.new.items)) }
     ensures order { heads.new.order ≡ heads.old.order }
@@ -140,7 +141,7 @@ fn first_sought<T: RowSource>(
     requires alive { (T.state source.old).failure ≡ None }
     requires initialised { (T.state source.old).initialised ≡ true }
     requires rising { AreRising (T.state source.old).rows }
-    ensures ok { IfOk result (StepsFrom
+    ensures ok { IfOk result (NextGivesFrom
         (is_exact (T.state source.old)) key.now (T.state source.old) (T.state source.new)) }
     ensures err { IfErr result (CanFail (is_exact (T.state source.old))) }
     ensures handed { IfErr result (λ e. (T.state source.new).failure ≡ Some e) }
@@ -159,7 +160,7 @@ fn first_read<T: RowSource>(
     requires sound { T.sound source.old }
     requires alive { (T.state source.old).failure ≡ None }
     requires initialised { (T.state source.old).initialised ≡ true }
-    ensures ok { IfOk result (Steps (record (T.state source.old)
+    ensures ok { IfOk result (NextGives (record (T.state source.old)
         { rows = from_key key.now (T.state source.old).rows }) (T.state source.new)) }
     ensures err { IfErr result (CanFail (T.state source.old).whole) }
     ensures handed { IfErr result (λ e. (T.state source.new).failure ≡ Some e) }
@@ -186,7 +187,7 @@ fn first_from<T: RowSource>(
     requires alive { (T.state source.old).failure ≡ None }
     requires initialised { (T.state source.old).initialised ≡ true }
     requires rising { AreRising (T.state source.old).rows }
-    ensures ok { IfOk result (StepsFrom (is_known order (is_exact (T.state source.old))) key.now
+    ensures ok { IfOk result (NextGivesFrom (is_known order (is_exact (T.state source.old))) key.now
         (T.state source.old) (T.state source.new)) }
     ensures err { IfErr result (CanFail (is_exact (T.state source.old))) }
     ensures handed { IfErr result (λ e. (T.state source.new).failure ≡ Some e) }
@@ -272,7 +273,8 @@ fn skip_hidden<T: RowSource>(
     ensures ok { IfOk result (λ _. Skips heads.old.order (hides (row_of row.now)) heads.old.rows
         (map T.state sources.old.items) heads.new.rows (map T.state sources.new.items)) }
     ensures bytes { IfOk result (λ count. count ≡ counted_bytes processed (kept_back
-        (row_of row.now) (merged_left heads.old.order heads.old.rows (map T.state sources.old.items)))) }
+        (row_of row.now)
+        (merged_left heads.old.order heads.old.rows (map T.state sources.old.items)))) }
     ensures err { IfErr result (CanFail (are_whole (map T.state sources.old.items))) }
     ensures handed { IfErr result (IsHandedOn (map T.state sources.new.items)) }
     ensures order { heads.new.order ≡ heads.old.order }
@@ -300,7 +302,8 @@ fn take_counted<T: RowSource>(
     ensures ok { IfOk result (Takes heads.old.order false heads.old.rows
         (map T.state sources.old.items) heads.new.rows (map T.state sources.new.items)) }
     ensures bytes { IfOk result (λ _. processed.new ≡ counted_bytes processed.old
-        (taken_at_once false (merged_left heads.old.order heads.old.rows (map T.state sources.old.items)))) }
+        (taken_at_once false
+        (merged_left heads.old.order heads.old.rows (map T.state sources.old.items)))) }
     ensures unchanged { IfErr result (λ _. processed.new ≡ processed.old) }
     ensures err { IfErr result (CanFail (are_whole (map T.state sources.old.items))) }
     ensures handed { IfErr result (IsHandedOn (map T.state sources.new.items)) }
@@ -329,19 +332,52 @@ fn take_given<T: RowSource>(
         (map T.state sources.old.items) heads.new.rows (map T.state sources.new.items)) }
     ensures all { IfOk result
         (λ _. merged_left heads.old.order heads.old.rows (map T.state sources.old.items)
-        ≡ taken_at_once dedup (merged_left heads.old.order heads.old.rows (map T.state sources.old.items))
+        ≡ taken_at_once dedup
+        (merged_left heads.old.order heads.old.rows (map T.state sources.old.items))
         ++ merged_left heads.old.order heads.new.rows (map T.state sources.new.items)) }
     ensures bytes { IfOk result (λ _. processed.new ≡ counted_bytes processed.old
-        (taken_at_once dedup (merged_left heads.old.order heads.old.rows (map T.state sources.old.items)))) }
+        (taken_at_once dedup
+        (merged_left heads.old.order heads.old.rows (map T.state sources.old.items)))) }
     ensures unchanged { IfErr result (λ _. processed.new ≡ processed.old) }
     ensures err { IfErr result (CanFail (are_whole (map T.state sources.old.items))) }
     ensures handed { IfErr result (IsHandedOn (map T.state sources.new.items)) }
     ensures order { heads.new.order ≡ heads.old.order }
     ensures sound { AllByRecursion T.sound sources.new.items }
 {
-    if !dedup {
-        return take_counted(alloc, sources, heads, processed);
+    if dedup {
+        take_distinct(alloc, sources, heads, processed)
+    } else {
+        take_counted(alloc, sources, heads, processed)
     }
+}
+
+// Takes the next row, and the rows that it hides. It adds the bytes of all of them to the count.
+// Out of line, so that a merge without dedup does not clear what this needs.
+#[inline(never)]
+fn take_distinct<T: RowSource>(
+    alloc: Global,
+    sources: &mut Vec<T>,
+    heads: &mut Heads,
+    processed: &mut u64,
+) -> Result<Option<RowEntry>, SlateDBError>
+    requires taken { AllTaken heads.old.rows (map T.state sources.old.items) }
+    requires sound { AllByRecursion T.sound sources.old.items }
+    ensures ok { IfOk result (Takes heads.old.order true heads.old.rows
+        (map T.state sources.old.items) heads.new.rows (map T.state sources.new.items)) }
+    ensures all { IfOk result
+        (λ _. merged_left heads.old.order heads.old.rows (map T.state sources.old.items)
+        ≡ taken_at_once true
+        (merged_left heads.old.order heads.old.rows (map T.state sources.old.items))
+        ++ merged_left heads.old.order heads.new.rows (map T.state sources.new.items)) }
+    ensures bytes { IfOk result (λ _. processed.new ≡ counted_bytes processed.old
+        (taken_at_once true
+        (merged_left heads.old.order heads.old.rows (map T.state sources.old.items)))) }
+    ensures unchanged { IfErr result (λ _. processed.new ≡ processed.old) }
+    ensures err { IfErr result (CanFail (are_whole (map T.state sources.old.items))) }
+    ensures handed { IfErr result (IsHandedOn (map T.state sources.new.items)) }
+    ensures order { heads.new.order ≡ heads.old.order }
+    ensures sound { AllByRecursion T.sound sources.new.items }
+{
     let Some(row) = take_least(alloc, sources, heads)? else {
         return Ok(None);
     };

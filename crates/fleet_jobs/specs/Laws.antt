@@ -92,7 +92,7 @@ MovableJobsAreTheModels = (flushes : RunFlushes) (input : PollInput) (spec : Com
     ≡ can_move input (trees_of flushes core) (spec_of spec)
 
 -- A worker of this number, heard of at this moment.
-abbrev pub worker_at : ℕ → ℕ → Option WorkerSpec
+abbrev pub worker_at : (worker moment : ℕ) → Option WorkerSpec
 worker_at worker moment = Some (record { worker_id = worker; last_heartbeat_ms = moment })
 
 -- Setting a job Completed is the model's completion.

@@ -2,13 +2,13 @@ pub mod Sources
 pub mod Shared
 pub mod Parts
 pub mod Specs
-pub mod Texts
-pub mod Status
 pub mod Workers
 pub mod Contexts
+pub mod Texts
+pub mod Status
 pub mod Jobs
 pub mod Taken
 pub mod Moves
+pub mod Places
 pub mod Laws
 pub mod Indexed
-pub mod Places

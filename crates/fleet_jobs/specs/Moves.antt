@@ -19,7 +19,7 @@ by_start [] = []
 by_start (view ∷ views) = put_view view (by_start views)
 
 -- True if the ranges of keys of two tables intersect.
-abbrev pub intersect : View → View → Bool
+abbrev pub intersect : (a b : View) → Bool
 intersect a b = is_some (intersection key_cmp (key_range a.sst) (key_range b.sst))
 
 -- True if no table's range intersects the next one's.

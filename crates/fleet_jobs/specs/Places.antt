@@ -28,13 +28,13 @@ nodes_at segment core = nodes_if_there (tree_in segment core)
 -- True if a run with this id may be made of these sources of a tree with these nodes. There are sources, they are in
 -- the tree one after the other, and if one is a flush they reach the oldest flush. The id is the lowest source run
 -- or, if no run is a source, above all runs of the tree.
-abbrev pub may_merge : List NodeName → List NodeName → ℕ → Bool
+abbrev pub may_merge : (nodes sources : List NodeName) (run : ℕ) → Bool
 may_merge nodes sources run = is_nonempty sources && reaches_oldest sources (older_nodes sources nodes)
     && is_lowest_or_above run (run_ids sources) (run_ids nodes)
 
 -- True if these sources may be dropped from a tree with these nodes. They are in the tree, and every flush that is
 -- older than a source is a source too.
-abbrev pub may_drop : List NodeName → List NodeName → Bool
+abbrev pub may_drop : (nodes sources : List NodeName) → Bool
 may_drop nodes sources = list_all (names_contain nodes) sources && names_older sources nodes
 
 -- True if a job with these sources and this destination may be finished in a tree with these nodes. A job without a

@@ -24,5 +24,5 @@ holds_capacity Completed = false
 holds_capacity Failed = false
 
 -- True if a job waits for a worker in both of its records.
-abbrev pub both_wait : Status → Status → Bool
+abbrev pub both_wait : (own stored : Status) → Bool
 both_wait own stored = status_eq Scheduled own && status_eq Scheduled stored

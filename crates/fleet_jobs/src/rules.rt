@@ -78,7 +78,8 @@ pub fn is_lowest_or_above(run: u32, sources: &[SourceId], nodes: &[SourceId]) ->
 // Whether the run is above all runs among the nodes.
 fn is_above(run: u32, nodes: &[SourceId]) -> bool
     ensures { result
-        ≡ list_all (λ node. list_all (λ id. nat_lt id run) (run_ids (name_of node ∷ []))) nodes.now }
+        ≡ list_all
+        (λ node. list_all (λ id. nat_lt id run) (run_ids (name_of node ∷ []))) nodes.now }
 {
     nodes.iter().all(|node| is_above_node(run, node))
 }

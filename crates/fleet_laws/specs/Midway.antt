@@ -12,7 +12,7 @@ use Rattle.fleet_model.specs.Store.{Store}
 use Rattle.fleet_model.specs.Work.Parties.{Parties}
 
 -- A version of the key "a", with a value of one byte.
-abbrev pub version : ℕ → ℕ → Row
+abbrev pub version : (byte seq : ℕ) → Row
 version byte seq = record { key = 0x61 ∷ []; content = Value (byte ∷ []); seq = seq; created = None; expires = None }
 
 -- The id that the worker drew, for the table that it put.
@@ -51,7 +51,7 @@ job = record {
 }
 
 -- An entry of the history with these parts.
-abbrev pub entry : ℕ → Party → Event → Answer → Entry
+abbrev pub entry : (line : ℕ) (party : Party) (event : Event) (answer : Answer) → Entry
 entry line party event answer = record { line = line; party = party; event = event; answer = answer }
 
 -- The change of the poll that opened the job.

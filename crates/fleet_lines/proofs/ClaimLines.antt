@@ -21,7 +21,7 @@ use Rattle.fleet_worker.specs.Claims.{claim_ends, claimed_with}
 use Rattle.fleet_worker.specs.Workers.{AttemptParts, WorkerParts, attempt_of, live_of}
 use Rattle.fleet_worker.specs.declared.claim.ClaimReport.{ClaimReport}
 use Rattle.fleet_lines.specs.Fleets.{FleetParts, Stands, options_of, state_of}
-use Rattle.fleet_lines.specs.Lines.{Runs}
+use Rattle.fleet_lines.specs.Lines.{RunsAlone}
 use Rattle.fleet_lines.specs.Steps.{Made, MayWork, Says}
 use Rattle.fleet_lines.proofs.Named.{found_old, kept_workers}
 use Rattle.fleet_lines.proofs.NoteLines.{others}
@@ -32,11 +32,11 @@ use Rattle.fleet_lines.proofs.WorkLines.{as_before, at_found, work_runs}
 pub claim_runs : (merge : Operator) (number n : ℕ) (old : FleetParts) (w : WorkerParts) (attempts : List AttemptParts) (stopped : Bool) (store : StoreParts) (result : Result ClaimReport SlateDBError) (answer : List ℕ) → IsLawful merge → Stands merge old
     → find (λ (w : WorkerParts). n == w.number) old.workers ≡ Some w → stopped ≡ stops result → OnErr result (attempts ≡ w.attempts) → OnFalse stopped (MayWork merge store.world (record w { attempts = attempts; stopped = stopped }))
     → Made (claim_ends attempts) (claim (worker_options (options_of old.options)) old.moment (live_of w)) merge number (party.Worker w.number) old.store store result → Says (claim_ends attempts) (λ r. claim_reply r.begun r.stopped) result answer
-    → Runs merge number (state_of old) (claim_line n (state_of old)) old (record old { store = store; workers = cond stopped (others n old.workers) (record w { attempts = attempts; stopped = stopped } ∷ others n old.workers) }) answer
+    → RunsAlone merge number (state_of old) (claim_line n (state_of old)) old (record old { store = store; workers = cond stopped (others n old.workers) (record w { attempts = attempts; stopped = stopped } ∷ others n old.workers) }) answer
 claim_runs merge number n old w attempts stopped store result answer lawful stands there is_stopped same may made says =
     let f = is_found merge old n w stands there in
     let step = claim (worker_options (options_of old.options)) old.moment (live_of w) in
-    subst (λ (c : LineCourse). Runs merge number (state_of old) c old (record old { store = store; workers = cond stopped (others n old.workers) (record w { attempts = attempts; stopped = stopped } ∷ others n old.workers) }) answer)
+    subst (λ (c : LineCourse). RunsAlone merge number (state_of old) c old (record old { store = store; workers = cond stopped (others n old.workers) (record w { attempts = attempts; stopped = stopped } ∷ others n old.workers) }) answer)
     (sym (at_found n old w (no_such_party (state_of old)) (λ w. worker_line w (state_of old) (claim (worker_options (options_of old.options)) old.moment w) (λ r. claim_reply r.begun r.stopped) (λ r. r.attempts) w.attempts) there))
     (work_runs merge number old w attempts stopped store (claim_ends attempts) (λ r. claim_reply r.begun r.stopped) (λ r. r.attempts) (map attempt_of w.attempts) step answer lawful stands n f.number
     (claims_are_lawful (caller_of merge number (Worker w.number)) old.store.world (worker_options (options_of old.options)) old.moment (live_of w) (calls_keep merge lawful) stands.keeps.store refl)
@@ -50,9 +50,9 @@ claim_runs merge number n old w attempts stopped store result answer lawful stan
 pub claim_said : (merge : Operator) (number n : ℕ) (old seen : FleetParts) (taken : Option WorkerParts) (w after : WorkerParts) (left workers : List WorkerParts) (store : StoreParts) (result : Result ClaimReport SlateDBError) (answer : List ℕ) → IsLawful merge → Stands merge old → seen ≡ old
     → taken ≡ find (λ (w : WorkerParts). n == w.number) seen.workers → left ≡ others n seen.workers → taken ≡ Some w → after.stopped ≡ stops result → after ≡ record w { attempts = after.attempts; stopped = after.stopped } → OnErr result (after.attempts ≡ w.attempts)
     → OnFalse after.stopped (MayWork merge store.world after) → Made (claim_ends after.attempts) (claim (worker_options (options_of seen.options)) seen.moment (live_of w)) merge number (party.Worker w.number) seen.store store result → workers ≡ cond after.stopped left (after ∷ left)
-    → Says (claim_ends after.attempts) (λ r. claim_reply r.begun r.stopped) result answer → Runs merge number (state_of old) (claim_line n (state_of old)) old (record seen { store = store; workers = workers }) answer
+    → Says (claim_ends after.attempts) (λ r. claim_reply r.begun r.stopped) result answer → RunsAlone merge number (state_of old) (claim_line n (state_of old)) old (record seen { store = store; workers = workers }) answer
 claim_said merge number n old seen taken w after left workers store result answer lawful stands same found lefts is stopped kept unchanged may made are says =
-    subst (λ (f : FleetParts). Runs merge number (state_of old) (claim_line n (state_of old)) old (record f { store = store; workers = workers }) answer) (sym same)
-    (subst (λ (ws : List WorkerParts). Runs merge number (state_of old) (claim_line n (state_of old)) old (record old { store = store; workers = ws }) answer) (sym (kept_workers n old seen w after left workers same lefts kept are))
+    subst (λ (f : FleetParts). RunsAlone merge number (state_of old) (claim_line n (state_of old)) old (record f { store = store; workers = workers }) answer) (sym same)
+    (subst (λ (ws : List WorkerParts). RunsAlone merge number (state_of old) (claim_line n (state_of old)) old (record old { store = store; workers = ws }) answer) (sym (kept_workers n old seen w after left workers same lefts kept are))
     (claim_runs merge number n old w after.attempts after.stopped store result answer lawful stands (found_old n old seen taken (Some w) same found is) stopped unchanged (subst (λ (v : WorkerParts). OnFalse after.stopped (MayWork merge store.world v)) kept may)
     (subst (λ (f : FleetParts). Made (claim_ends after.attempts) (claim (worker_options (options_of f.options)) f.moment (live_of w)) merge number (party.Worker w.number) f.store store result) same made) says))

@@ -28,7 +28,7 @@ use Rattle.fleet_store.specs.Memory.{StoreParts}
 use Rattle.fleet_coordinator.specs.Flushes as coordinator
 use Rattle.fleet_coordinator.specs.declared.flushing.FlushFault.{FlushFault}
 use Rattle.fleet_lines.specs.Fleets.{FleetParts, IsServing, options_of, parties_of, state_of}
-use Rattle.fleet_lines.specs.Lines.{Runs}
+use Rattle.fleet_lines.specs.Lines.{RunsAlone}
 use Rattle.fleet_lines.specs.Steps.{Made, Says, end_reply}
 use Rattle.fleet_lines.proofs.Made.{step_run, step_ends, ran_later}
 use Rattle.fleet_lines.proofs.Runs.{state_at, then_ends}
@@ -51,7 +51,7 @@ quiet merge number moment retention last ask answer old new waits left LacksMemo
 -- A flush that the writer made runs the line, with the reply that it says.
 pub flush_runs : (merge : Operator) (number : ℕ) (ask : FlushAsk) (old : FleetParts) (store : StoreParts) (result : Result (Option FlushFault) SlateDBError) (answer : List ℕ) → IsLawful merge → IsServing merge old → MayAsk ask
     → Made coordinator.ends (flush old.moment old.options.worker.retention_ms old.last_name ask) merge number party.Writer old.store store result → Says coordinator.ends (λ done. ok) result answer
-    → Runs merge number (state_of old) (flush_line ask.name ask.segment ask.floor ask.tick ask.rows (state_of old)) old (record old { store = store }) answer
+    → RunsAlone merge number (state_of old) (flush_line ask.name ask.segment ask.floor ask.tick ask.rows (state_of old)) old (record old { store = store }) answer
 flush_runs merge number ask old store result answer lawful serving may made says =
     let retention = old.options.worker.retention_ms in
     let last = last_name old.store.world.store.history in

@@ -44,7 +44,7 @@ use Rattle.fleet_output.specs.Jobs.{cursor_of}
 use Rattle.fleet_output.specs.Next.{RefusesNext, left_for, read_for}
 use Rattle.fleet_output.proofs.Resumed.{cursor_is}
 use Rattle.fleet_step.specs.Steps.{RunsTo, StepRan}
-use Rattle.fleet_worker.specs.Outputs.{EndsInGets, IsPartAt, IsReason, OutputRan, RangeRan, WritesEnough, asked, output_ends, output_of, written_rows}
+use Rattle.fleet_worker.specs.Outputs.{EndsInGets, IsPartAt, IsReason, OutputRan, RangeRan, WritesEnough, asked_output, output_ends, output_of, written_rows}
 use Rattle.fleet_worker.specs.Workers.{AttemptParts, IsReady, WorkerParts, attempt_of, live_of, run_at}
 use Rattle.fleet_worker.proofs.OutputRuns.{err_alike, gets_end}
 use Rattle.fleet_worker.proofs.Outputs.{can_resume, left_same}
@@ -156,7 +156,7 @@ module _ (scheduler : Scheduler) (s : State) (view : StoreView) (w : WorkerParts
   pub record MayRun (new : StoreView) (next : List AttemptParts) (result : Result (Option SsTableHandle) SlateDBError) : Type 0 where
     pub refusal : Option (List ℕ)
     pub may : OutputMay inputs s rows (Some (live_of w, attempt_of a, noted_range part)) refusal
-    pub ran : StepRan (output_ends (written_rows view (asked s.moment w a place part rows refusal)) next) (output_of view (asked s.moment w a place part rows refusal)) view new result
+    pub ran : StepRan (output_ends (written_rows view (asked_output s.moment w a place part rows refusal)) next) (output_of view (asked_output s.moment w a place part rows refusal)) view new result
 
   found_here : (refusal : Option (List ℕ)) → Found refusal → OutputMay inputs s rows (Some (live_of w, attempt_of a, noted_range part)) refusal
   found_here refusal may = subst (λ (store : Store). OutputMay inputs (record s { store = store }) rows (Some (live_of w, attempt_of a, noted_range part)) refusal) (sym here) may
@@ -165,7 +165,7 @@ module _ (scheduler : Scheduler) (s : State) (view : StoreView) (w : WorkerParts
   ends_in_gets : (new : StoreView) (next : List AttemptParts) (e : SlateDBError) → GotUntil (ids_in range a.tables) view new e → MayRun new next (Err e)
   ends_in_gets new next e until =
       let m = output_may inputs state rows (Some (live_of w, attempt_of a, noted_range part)) in
-      let ask = asked s.moment w a place part rows m.0 in
+      let ask = asked_output s.moment w a place part rows m.0 in
       record {
         refusal = m.0;
         may = found_here m.0 m.1;
@@ -181,7 +181,7 @@ module _ (scheduler : Scheduler) (s : State) (view : StoreView) (w : WorkerParts
       stops (Err e) until = ends_in_gets new next e until
 
       by : (refusal : Option (List ℕ)) → IsReason s.moment w place rows view new a part result refusal
-          → StepRan (output_ends (written_rows view (asked s.moment w a place part rows refusal)) next) (output_of view (asked s.moment w a place part rows refusal)) view new result → MayRun new next result
+          → StepRan (output_ends (written_rows view (asked_output s.moment w a place part rows refusal)) next) (output_of view (asked_output s.moment w a place part rows refusal)) view new result → MayRun new next result
       by None (inl enough) ran = record { refusal = None; may = found_here None (given enough); ran = ran }
       by None (inr ends) ran = stops result ends
       by (Some message) refuses ran = record { refusal = Some message; may = found_here (Some message) (refused message refuses); ran = ran }
@@ -204,7 +204,7 @@ output_made merge mine scheduler s moment number lent w place rows old mid new l
     let ran = subst (λ (o : Operator). OutputRan s.moment w place rows (view_of o lent (at_line number p old)) last next result job) same (subst (λ (m : StoreParts). OutputRan s.moment w place rows (view_of mine lent m) last next result job) at (subst (λ (t : ℕ). OutputRan t w place rows (view_of mine lent mid) last next result job) (sym when) out)) in
     let ready = ready_lent merge merge number lent old (at_line number p old) w refl refl may in
     let m = may_run scheduler s view w ran.attempt place rows ran.part lawful ready (run_here w.attempts job ran.attempt ran.runs) ran.at some here last next result ran.ran in
-    let ask = asked s.moment w ran.attempt place ran.part rows m.refusal in
+    let ask = asked_output s.moment w ran.attempt place ran.part rows m.refusal in
     record {
       attempt = ran.attempt;
       runs = ran.runs;

@@ -9,7 +9,7 @@ use Rattle.script_model.specs.Replies.{reply}
 use Rattle.fleet_rows.specs.declared.errors.SlateDBError.{SlateDBError}
 use Rattle.fleet_worker.specs.Workers.{WorkerParts}
 use Rattle.fleet_lines.specs.Fleets.{FleetParts, Stands, parties_of, state_of}
-use Rattle.fleet_lines.specs.Lines.{Runs}
+use Rattle.fleet_lines.specs.Lines.{RunsAlone}
 use Rattle.fleet_lines.proofs.NoteLines.{others}
 use Rattle.fleet_lines.proofs.Standing.{IsFound, is_found, numbers_differ}
 use Rattle.fleet_lines.proofs.WorkLines.{at_none}
@@ -24,7 +24,7 @@ all_others n (w ∷ workers) none = by (n == w.number) none (all_others n worker
     by false none further = ap (λ (ws : List WorkerParts). w ∷ ws) (further none)
 
 -- A line that only replies that there is no such party.
-pub none_runs : (merge : Operator) (number : ℕ) (old : FleetParts) (answer : List ℕ) → Stands merge old → answer ≡ reply (codes "nosuchparty" ∷ []) → Runs merge number (state_of old) (no_such_party (state_of old)) old old answer
+pub none_runs : (merge : Operator) (number : ℕ) (old : FleetParts) (answer : List ℕ) → Stands merge old → answer ≡ reply (codes "nosuchparty" ∷ []) → RunsAlone merge number (state_of old) (no_such_party (state_of old)) old old answer
 none_runs merge number old answer stands says = record { ends = ap (λ (a : List ℕ). (a, state_of old)) (sym says); stands = stands; same_name = refl }
 
 -- ---- the fleet as the code sees it
@@ -51,11 +51,11 @@ kept_workers n old seen w after left workers same lefts kept are =
 -- A line of a worker that is not live replies so and changes nothing.
 pub nobody_runs : (merge : Operator) (number n : ℕ) (act : LiveWorker → LineCourse) (old seen : FleetParts) (taken : Option WorkerParts) (left : List WorkerParts) (said : Result (List ℕ) SlateDBError) → Stands merge old → seen ≡ old → taken ≡ find (λ (w : WorkerParts). n == w.number) seen.workers
     → left ≡ others n seen.workers → taken ≡ None → IfOk said (λ (answer : List ℕ). answer ≡ reply (codes "nosuchparty" ∷ []))
-    → IfOk said (Runs merge number (state_of old) (if_some (worker_with n (parties_of old)) (no_such_party (state_of old)) act) old (record seen { workers = left }))
+    → IfOk said (RunsAlone merge number (state_of old) (if_some (worker_with n (parties_of old)) (no_such_party (state_of old)) act) old (record seen { workers = left }))
 nobody_runs merge number n act old seen taken left (Err e) stands same found are none says = tt
 nobody_runs merge number n act old seen taken left (Ok answer) stands same found are none says =
     let missing = found_old n old seen taken None same found none in
     let all : left ≡ old.workers = are ∙ (ap (λ (f : FleetParts). others n f.workers) same ∙ all_others n old.workers missing) in
-    subst (λ (f : FleetParts). Runs merge number (state_of old) (if_some (worker_with n (parties_of old)) (no_such_party (state_of old)) act) old (record f { workers = left }) answer) (sym same)
-    (subst (λ (ws : List WorkerParts). Runs merge number (state_of old) (if_some (worker_with n (parties_of old)) (no_such_party (state_of old)) act) old (record old { workers = ws }) answer) (sym all)
-    (subst (λ (c : LineCourse). Runs merge number (state_of old) c old old answer) (sym (at_none n old (no_such_party (state_of old)) act missing)) (none_runs merge number old answer stands says)))
+    subst (λ (f : FleetParts). RunsAlone merge number (state_of old) (if_some (worker_with n (parties_of old)) (no_such_party (state_of old)) act) old (record f { workers = left }) answer) (sym same)
+    (subst (λ (ws : List WorkerParts). RunsAlone merge number (state_of old) (if_some (worker_with n (parties_of old)) (no_such_party (state_of old)) act) old (record old { workers = ws }) answer) (sym all)
+    (subst (λ (c : LineCourse). RunsAlone merge number (state_of old) c old old answer) (sym (at_none n old (no_such_party (state_of old)) act missing)) (none_runs merge number old answer stands says)))

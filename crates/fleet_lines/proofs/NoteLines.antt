@@ -28,11 +28,11 @@ use Rattle.fleet_history.specs.Parties.{party_of}
 use Rattle.fleet_history.specs.declared.party.Party as own
 use Rattle.fleet_history.specs.declared.party.Party.TheVariants as party
 use Rattle.fleet_store.specs.Memory.{StoreParts}
-use Rattle.fleet_worker.specs.Workers.{WorkerParts, live_of, started}
+use Rattle.fleet_worker.specs.Workers.{WorkerParts, live_of, started_worker}
 use Rattle.fleet_jobs.specs.Workers.{release_of}
 use Rattle.fleet_jobs.specs.declared.release.Release.{Release}
 use Rattle.fleet_lines.specs.Fleets.{FleetParts, Stands, options_of, parties_of, state_of}
-use Rattle.fleet_lines.specs.Lines.{Runs}
+use Rattle.fleet_lines.specs.Lines.{RunsAlone}
 use Rattle.fleet_lines.specs.Steps.{Noted, note_event, nothing}
 use Rattle.fleet_read.proofs.Trees.{find_map}
 use Rattle.fleet_lines.proofs.Lists.{filter_map}
@@ -88,16 +88,16 @@ others_live n workers = filter_map live_of (λ (w : LiveWorker). not (n == w.num
 -- The notes of a start, after that of a kill if the worker was live, run the line that starts a worker.
 pub start_worker_runs : (merge : Operator) (number n : ℕ) (release : Option ℕ) (named : Release) (was_live : Bool) (old : FleetParts) (mid store : StoreParts) (answer : List ℕ) → IsLawful merge → Stands merge old → release_of named ≡ release_named release
     → was_live ≡ is_some (find (λ (w : WorkerParts). n == w.number) old.workers) → Noted merge number (party.Worker n) (killed_first was_live (Worker n)) old.store mid → Noted merge number (party.Worker n) (note_event true (party.Worker n) ∷ []) mid store → answer ≡ ok
-    → Runs merge number (state_of old) (start_worker n release (state_of old)) old (record old { store = store; workers = started n named ∷ others n old.workers }) answer
+    → RunsAlone merge number (state_of old) (start_worker n release (state_of old)) old (record old { store = store; workers = started_worker n named ∷ others n old.workers }) answer
 start_worker_runs merge number n release named was_live old mid store answer lawful stands is_named was killed noted says =
-    rw says (subst (λ (b : Bool). Runs merge number (state_of old) (only_notes (Worker n) (killed_first b (Worker n) ++ Start (Worker n) ∷ []) (state_of old) (with_worker (record { number = n; release = release_named release; attempts = [] }) (parties_of old))) old new ok)
+    rw says (subst (λ (b : Bool). RunsAlone merge number (state_of old) (only_notes (Worker n) (killed_first b (Worker n) ++ Start (Worker n) ∷ []) (state_of old) (with_worker (record { number = n; release = release_named release; attempts = [] }) (parties_of old))) old new ok)
     (was ∙ is_live n old) (by was_live killed))
   where
     who : Caller
     who = caller_of merge number (Worker n)
 
     new : FleetParts
-    new = record old { store = store; workers = started n named ∷ others n old.workers }
+    new = record old { store = store; workers = started_worker n named ∷ others n old.workers }
 
     w : LiveWorker
     w = record { number = n; release = release_named release; attempts = [] }
@@ -114,7 +114,7 @@ start_worker_runs merge number n release named was_live old mid store answer law
     same : with_worker w (parties_of old) ≡ parties_of new
     same = ap (λ (ws : List LiveWorker). with_first w ws) (others_live n old.workers) ∙ ap (λ (r : jobs.Release). with_first (idle r) (map live_of (others n old.workers))) (sym is_named)
 
-    finish : (notes : List Event) → AllByRecursion (IsOwnNote (Worker n)) notes → Ran who (calls_each notes (Ends end)) old.store.world store.world old.store.waits store.waits (Gives end) → Runs merge number (state_of old) (only_notes (Worker n) notes (state_of old) (with_worker w (parties_of old))) old new ok
+    finish : (notes : List Event) → AllByRecursion (IsOwnNote (Worker n)) notes → Ran who (calls_each notes (Ends end)) old.store.world store.world old.store.waits store.waits (Gives end) → RunsAlone merge number (state_of old) (only_notes (Worker n) notes (state_of old) (with_worker w (parties_of old))) old new ok
     finish notes own ran =
         let run = ran_runs who (calls_each notes (Ends end)) old.store.world store.world old.store.waits store.waits (Gives end) ran in
         record {
@@ -137,7 +137,7 @@ start_worker_runs merge number n release named was_live old mid store answer law
     last : Ran who (calls_each (Start (Worker n) ∷ []) (Ends end)) mid.world store.world mid.waits store.waits (Gives end)
     last = one_note who (Start (Worker n)) end mid.world store.world mid.waits store.waits noted.ran
 
-    by : (b : Bool) → Noted merge number (party.Worker n) (killed_first b (Worker n)) old.store mid → Runs merge number (state_of old) (only_notes (Worker n) (killed_first b (Worker n) ++ Start (Worker n) ∷ []) (state_of old) (with_worker w (parties_of old))) old new ok
+    by : (b : Bool) → Noted merge number (party.Worker n) (killed_first b (Worker n)) old.store mid → RunsAlone merge number (state_of old) (only_notes (Worker n) (killed_first b (Worker n) ++ Start (Worker n) ∷ []) (state_of old) (with_worker w (parties_of old))) old new ok
     by true killed = finish (Kill (Worker n) ∷ Start (Worker n) ∷ []) (own_note false (party.Worker n), (own_note true (party.Worker n), tt))
         (then_on who true (Worker n) (calls_each (Start (Worker n) ∷ []) (Ends end)) old.store.world mid.world store.world old.store.waits mid.waits store.waits (Gives end) killed.ran last)
     by false killed = finish (Start (Worker n) ∷ []) (own_note true (party.Worker n), tt)
@@ -153,9 +153,9 @@ if_live (Some x) none some e = refl
 -- The note of a kill runs the line that kills a live worker.
 pub kill_worker_runs : (merge : Operator) (number n : ℕ) (old : FleetParts) (store : StoreParts) (answer : List ℕ) → IsLawful merge → Stands merge old → is_some (find (λ (w : WorkerParts). n == w.number) old.workers) ≡ true
     → Noted merge number (party.Worker n) (note_event false (party.Worker n) ∷ []) old.store store → answer ≡ ok
-    → Runs merge number (state_of old) (kill_worker n (state_of old)) old (record old { store = store; workers = others n old.workers }) answer
+    → RunsAlone merge number (state_of old) (kill_worker n (state_of old)) old (record old { store = store; workers = others n old.workers }) answer
 kill_worker_runs merge number n old store answer lawful stands live noted says =
-    rw says (subst (λ (c : LineCourse). Runs merge number (state_of old) c old new ok) (sym (if_live (worker_with n (parties_of old)) (no_such_party (state_of old)) course (sym (is_live n old) ∙ live))) (record {
+    rw says (subst (λ (c : LineCourse). RunsAlone merge number (state_of old) c old new ok) (sym (if_live (worker_with n (parties_of old)) (no_such_party (state_of old)) course (sym (is_live n old) ∙ live))) (record {
       ends = line_gives merge number (options_of old.options) old.moment (parties_of old) course old.store.world store.world old.store.waits store.waits end ran
           ∙ ap (λ (ws : List LiveWorker). (ok, state_at (options_of old.options) old.moment store.world store.waits (record { coordinators = old.coordinators; workers = ws }))) (others_live n old.workers);
       stands = record {
@@ -187,9 +187,9 @@ kill_worker_runs merge number n old store answer lawful stands live noted says =
 -- The note of a kill runs the line that kills or stops a live coordinator.
 pub end_coordinator_runs : (merge : Operator) (number n : ℕ) (old : FleetParts) (store : StoreParts) (answer : List ℕ) → IsLawful merge → Stands merge old → is_some (find (λ (c : LiveCoordinator). n == c.number) old.coordinators) ≡ true
     → Noted merge number (party.Coordinator n) (note_event false (party.Coordinator n) ∷ []) old.store store → answer ≡ ok
-    → Runs merge number (state_of old) (end_coordinator n (state_of old)) old (record old { store = store; coordinators = filter (λ (c : LiveCoordinator). not (n == c.number)) old.coordinators }) answer
+    → RunsAlone merge number (state_of old) (end_coordinator n (state_of old)) old (record old { store = store; coordinators = filter (λ (c : LiveCoordinator). not (n == c.number)) old.coordinators }) answer
 end_coordinator_runs merge number n old store answer lawful stands live noted says =
-    rw says (subst (λ (c : LineCourse). Runs merge number (state_of old) c old new ok) (sym (if_live (find (λ (c : LiveCoordinator). n == c.number) old.coordinators) (no_such_party (state_of old)) course live)) (record {
+    rw says (subst (λ (c : LineCourse). RunsAlone merge number (state_of old) c old new ok) (sym (if_live (find (λ (c : LiveCoordinator). n == c.number) old.coordinators) (no_such_party (state_of old)) course live)) (record {
       ends = line_gives merge number (options_of old.options) old.moment (parties_of old) course old.store.world store.world old.store.waits store.waits end ran;
       stands = record {
         keeps = coordinator_goes merge number n old.store.world store.world (parties_of old) course.course (Gives end) lawful stands.keeps (own_lawful who (Kill (Coordinator n) ∷ []) (Ends end) old.store.world (own_note false (party.Coordinator n), tt) (λ last. tt))

@@ -31,7 +31,7 @@ use Rattle.fleet_poll.specs.declared.report.PollReport.{PollReport}
 use Rattle.fleet_text.proofs.Places.{places_of_nines}
 use Rattle.fleet_coordinator.specs.Handling.{shown_of}
 use Rattle.fleet_lines.specs.Fleets.{FleetParts, Stands, options_of, parties_of, state_of}
-use Rattle.fleet_lines.specs.Lines.{Runs}
+use Rattle.fleet_lines.specs.Lines.{RunsAlone}
 use Rattle.fleet_lines.specs.Lists.{IsTaken}
 use Rattle.fleet_lines.specs.Steps.{Made, Polled, end_reply, error_reply, report_said}
 use Rattle.fleet_lines.proofs.Fails.{failed_live}
@@ -64,7 +64,7 @@ live_fits merge n old c stands there = all_at (λ (c : LiveCoordinator). Coordin
 
 -- A poll of one that is not live.
 pub no_poll_runs : (inputs : Inputs) (number n : ℕ) (commits_only : Bool) (old : FleetParts) (result : Option (ℕ × LiveCoordinator)) (coordinators : List LiveCoordinator) (answer : List ℕ) → Takes n old result coordinators → Stands inputs.merge old → is_some result ≡ false
-    → answer ≡ reply (codes "nosuchparty" ∷ []) → Runs inputs.merge number (state_of old) (polls commits_only (spell_poll commits_only) inputs n (state_of old)) old (record old { coordinators = coordinators }) answer
+    → answer ≡ reply (codes "nosuchparty" ∷ []) → RunsAlone inputs.merge number (state_of old) (polls commits_only (spell_poll commits_only) inputs n (state_of old)) old (record old { coordinators = coordinators }) answer
 no_poll_runs inputs number n commits_only old result coordinators answer takes stands none says =
     let gone = without_coordinator n (parties_of old) in
     no_coordinator_runs n old result coordinators takes inputs.merge number
@@ -97,7 +97,7 @@ module _ (inputs : Inputs) (number n : ℕ) (commits_only : Bool) (old : FleetPa
   -- The poll ended so and left these coordinators.
   runs : (store : StoreParts) (end : End (StepEnd PollState)) (answer : List ℕ) (coordinators : List LiveCoordinator) → Ran who (poll ask) old.store.world store.world old.store.waits store.waits end → end_reply (spell_poll commits_only) end ≡ Some answer
       → live_after (λ reached. parties_of old) gone gone end ≡ record (parties_of old) { coordinators = coordinators } → FleetKeeps inputs.merge store.world (record (parties_of old) { coordinators = coordinators })
-      → Runs inputs.merge number (state_of old) course old (record old { store = store; coordinators = coordinators }) answer
+      → RunsAlone inputs.merge number (state_of old) course old (record old { store = store; coordinators = coordinators }) answer
   runs store end answer coordinators ran says live keeps = record {
     ends = ap (λ (o : Option LiveCoordinator). run_line number (state_of old) (if_some o (no_such_party (state_of old)) act)) there
         ∙ (step_ends inputs.merge number (options_of old.options) old.moment (parties_of old) (party.Coordinator n) (poll ask) (spell_poll commits_only) (λ reached. parties_of old) gone gone old.store.world store.world old.store.waits store.waits answer end ran says
@@ -112,25 +112,25 @@ module _ (inputs : Inputs) (number n : ℕ) (commits_only : Bool) (old : FleetPa
 
   -- A poll that reports keeps the coordinator, which is put back at its place.
   pub poll_reports : (store : StoreParts) (left coordinators : List LiveCoordinator) (place : ℕ) (live : LiveCoordinator) (report : PollReport) (answer : List ℕ) → IsTaken old.coordinators place c left → Polled (poll ask) inputs.merge number c old.store store (Ok (live, report))
-      → coordinators ≡ insert left place live → answer ≡ report_said commits_only report → Runs inputs.merge number (state_of old) course old (record old { store = store; coordinators = coordinators }) answer
+      → coordinators ≡ insert left place live → answer ≡ report_said commits_only report → RunsAlone inputs.merge number (state_of old) course old (record old { store = store; coordinators = coordinators }) answer
   poll_reports store left coordinators place live report answer taken polled put says =
       let end = Gives (Reports polled.reached) in
       let ran : Ran who (poll ask) old.store.world store.world old.store.waits store.waits end =
       subst (λ (m : ℕ). Ran (caller_of inputs.merge number (Coordinator m)) (poll ask) old.store.world store.world old.store.waits store.waits end) (sym is_number) polled.made.ran in
-      subst (λ (cs : List LiveCoordinator). Runs inputs.merge number (state_of old) course old (record old { store = store; coordinators = cs }) answer)
+      subst (λ (cs : List LiveCoordinator). RunsAlone inputs.merge number (state_of old) course old (record old { store = store; coordinators = cs }) answer)
       (sym (put ∙ (ap (λ (d : LiveCoordinator). insert left place d) polled.same ∙ taken.back)))
       (runs store end answer old.coordinators ran (ap Some (sym (says ∙ (ap (report_said commits_only) polled.report ∙ report_shown commits_only polled.reached)))) refl
       (coordinator_stays inputs.merge number n old.store.world store.world (parties_of old) (poll ask) end lawful stands.keeps poll_lawful (ran_runs who (poll ask) old.store.world store.world old.store.waits store.waits end ran)))
 
   -- A poll that does not report drops it.
   pub poll_fails : (store : StoreParts) (coordinators : List LiveCoordinator) (e : SlateDBError) (answer : List ℕ) → Polled (poll ask) inputs.merge number c old.store store (Err e) → coordinators ≡ filter (λ (c : LiveCoordinator). not (n == c.number)) old.coordinators → error_reply e ≡ Some answer
-      → Runs inputs.merge number (state_of old) course old (record old { store = store; coordinators = coordinators }) answer
+      → RunsAlone inputs.merge number (state_of old) course old (record old { store = store; coordinators = coordinators }) answer
   poll_fails store coordinators e answer polled left says =
       let run : StepRun (λ (done : LiveCoordinator × PollReport). Reports polled.reached) (spell_poll commits_only) (poll ask) inputs.merge number (party.Coordinator n) old.store store (Err e) answer =
       step_run (λ (done : LiveCoordinator × PollReport). Reports polled.reached) (spell_poll commits_only) (poll ask) inputs.merge number (party.Coordinator n) old.store store (Err e) answer
       (subst (λ (m : ℕ). Made (λ (done : LiveCoordinator × PollReport). Reports polled.reached) (poll ask) inputs.merge number (party.Coordinator m) old.store store (Err e)) (sym is_number) polled.made)
       (error_says (λ (done : LiveCoordinator × PollReport). Reports polled.reached) (spell_poll commits_only) e answer says) in
-      subst (λ (cs : List LiveCoordinator). Runs inputs.merge number (state_of old) course old (record old { store = store; coordinators = cs }) answer) (sym left)
+      subst (λ (cs : List LiveCoordinator). RunsAlone inputs.merge number (state_of old) course old (record old { store = store; coordinators = cs }) answer) (sym left)
       (runs store run.end answer (filter (λ (c : LiveCoordinator). not (n == c.number)) old.coordinators) run.ran run.says
       (failed_live (λ (done : LiveCoordinator × PollReport). Reports polled.reached) (λ reached. parties_of old) gone e run.end run.is)
       (coordinator_goes inputs.merge number n old.store.world store.world (parties_of old) (poll ask) run.end lawful stands.keeps poll_lawful (ran_runs who (poll ask) old.store.world store.world old.store.waits store.waits run.end run.ran)))

@@ -23,13 +23,13 @@ use Rattle.step_model.specs.Entries.{last_name}
 use Rattle.fleet_history.specs.Entries.{history_of}
 use Rattle.fleet_history.specs.declared.entry.HistoryEntry.{HistoryEntry}
 use Rattle.fleet_lines.specs.Fleets.{FleetParts, IsServing, Stands, state_of}
-use Rattle.fleet_lines.specs.Lines.{Runs, Serves}
+use Rattle.fleet_lines.specs.Lines.{RunsAlone, Serves}
 use Rattle.fleet_looks.specs.Looks.{read_said, scan_said}
 use Rattle.fleet_lines.proofs.NamesAfter.{named_after}
 
 -- A line whose course ran.
 serves : (inputs : Inputs) (number : ℕ) (line : Line) (old new : FleetParts) (answer : List ℕ) (course : LineCourse) → MayRefuse inputs line (prepared_state line (state_of old)) None → course ≡ course_of inputs line None (prepared_state line (state_of old))
-    → Runs inputs.merge number (prepared_state line (state_of old)) course old new answer → Serves inputs number line old new answer
+    → RunsAlone inputs.merge number (prepared_state line (state_of old)) course old new answer → Serves inputs number line old new answer
 serves inputs number line old new answer course may is runs = record {
   course = record { course = course; does = record { refusal = None; may = may; is = is }; ends = runs.ends };
   stands = runs.stands;
@@ -115,63 +115,63 @@ module _ (inputs : Inputs) (number : ℕ) (old : FleetParts) (answer : List ℕ)
 
   -- ---- lines that do a step
 
-  pub flush_serves : (name : ℕ) (segment : List ℕ) (floor : ℕ) (tick : ℤ) (rows : List Row) (new : FleetParts) → Runs inputs.merge number (state_of old) (flush_line name segment floor tick rows (state_of old)) old new answer → Serves inputs number (FlushRows name segment floor tick rows) old new answer
+  pub flush_serves : (name : ℕ) (segment : List ℕ) (floor : ℕ) (tick : ℤ) (rows : List Row) (new : FleetParts) → RunsAlone inputs.merge number (state_of old) (flush_line name segment floor tick rows (state_of old)) old new answer → Serves inputs number (FlushRows name segment floor tick rows) old new answer
   unfolding course_of
   flush_serves name segment floor tick rows new runs = serves inputs number (FlushRows name segment floor tick rows) old new answer _ refl refl runs
 
-  pub submit_serves : (segment : List ℕ) (destination : ℕ) (sources : List NodeName) (new : FleetParts) → Runs inputs.merge number (state_of old) (submit_line (record { segment = segment; sources = sources; destination = Some destination }) (state_of old)) old new answer → Serves inputs number (SubmitJob segment destination sources) old new answer
+  pub submit_serves : (segment : List ℕ) (destination : ℕ) (sources : List NodeName) (new : FleetParts) → RunsAlone inputs.merge number (state_of old) (submit_line (record { segment = segment; sources = sources; destination = Some destination }) (state_of old)) old new answer → Serves inputs number (SubmitJob segment destination sources) old new answer
   unfolding course_of
   submit_serves segment destination sources new runs = serves inputs number (SubmitJob segment destination sources) old new answer _ refl refl runs
 
-  pub drain_serves : (segment : List ℕ) (sources : List NodeName) (new : FleetParts) → Runs inputs.merge number (state_of old) (submit_line (record { segment = segment; sources = sources; destination = None }) (state_of old)) old new answer → Serves inputs number (SubmitDrain segment sources) old new answer
+  pub drain_serves : (segment : List ℕ) (sources : List NodeName) (new : FleetParts) → RunsAlone inputs.merge number (state_of old) (submit_line (record { segment = segment; sources = sources; destination = None }) (state_of old)) old new answer → Serves inputs number (SubmitDrain segment sources) old new answer
   unfolding course_of
   drain_serves segment sources new runs = serves inputs number (SubmitDrain segment sources) old new answer _ refl refl runs
 
-  pub full_serves : (segment : Option (List ℕ)) (new : FleetParts) → Runs inputs.merge number (state_of old) (full_line inputs segment (state_of old)) old new answer → Serves inputs number (SubmitFull segment) old new answer
+  pub full_serves : (segment : Option (List ℕ)) (new : FleetParts) → RunsAlone inputs.merge number (state_of old) (full_line inputs segment (state_of old)) old new answer → Serves inputs number (SubmitFull segment) old new answer
   unfolding course_of
   full_serves segment new runs = serves inputs number (SubmitFull segment) old new answer _ refl refl runs
 
-  pub start_coordinator_serves : (n : ℕ) (new : FleetParts) → Runs inputs.merge number (state_of old) (start_coordinator n (state_of old)) old new answer → Serves inputs number (StartCoordinator n) old new answer
+  pub start_coordinator_serves : (n : ℕ) (new : FleetParts) → RunsAlone inputs.merge number (state_of old) (start_coordinator n (state_of old)) old new answer → Serves inputs number (StartCoordinator n) old new answer
   unfolding course_of
   start_coordinator_serves n new runs = serves inputs number (StartCoordinator n) old new answer _ refl refl runs
 
-  pub poll_serves : (n : ℕ) (new : FleetParts) → Runs inputs.merge number (state_of old) (polls false (spell_poll false) inputs n (state_of old)) old new answer → Serves inputs number (Poll n) old new answer
+  pub poll_serves : (n : ℕ) (new : FleetParts) → RunsAlone inputs.merge number (state_of old) (polls false (spell_poll false) inputs n (state_of old)) old new answer → Serves inputs number (Poll n) old new answer
   unfolding course_of
   poll_serves n new runs = serves inputs number (Poll n) old new answer _ refl refl runs
 
-  pub commit_serves : (n : ℕ) (new : FleetParts) → Runs inputs.merge number (state_of old) (polls true (spell_poll true) inputs n (state_of old)) old new answer → Serves inputs number (CommitOnly n) old new answer
+  pub commit_serves : (n : ℕ) (new : FleetParts) → RunsAlone inputs.merge number (state_of old) (polls true (spell_poll true) inputs n (state_of old)) old new answer → Serves inputs number (CommitOnly n) old new answer
   unfolding course_of
   commit_serves n new runs = serves inputs number (CommitOnly n) old new answer _ refl refl runs
 
-  pub sweep_serves : (new : FleetParts) → Runs inputs.merge number (state_of old) (sweep_line (state_of old)) old new answer → Serves inputs number Sweep old new answer
+  pub sweep_serves : (new : FleetParts) → RunsAlone inputs.merge number (state_of old) (sweep_line (state_of old)) old new answer → Serves inputs number Sweep old new answer
   unfolding course_of
   sweep_serves new runs = serves inputs number Sweep old new answer _ refl refl runs
 
-  pub start_worker_serves : (n : ℕ) (release : Option ℕ) (new : FleetParts) → Runs inputs.merge number (state_of old) (start_worker n release (state_of old)) old new answer → Serves inputs number (StartWorker n release) old new answer
+  pub start_worker_serves : (n : ℕ) (release : Option ℕ) (new : FleetParts) → RunsAlone inputs.merge number (state_of old) (start_worker n release (state_of old)) old new answer → Serves inputs number (StartWorker n release) old new answer
   unfolding course_of
   start_worker_serves n release new runs = serves inputs number (StartWorker n release) old new answer _ refl refl runs
 
-  pub kill_coordinator_serves : (n : ℕ) (new : FleetParts) → Runs inputs.merge number (state_of old) (end_coordinator n (state_of old)) old new answer → Serves inputs number (KillCoordinator n) old new answer
+  pub kill_coordinator_serves : (n : ℕ) (new : FleetParts) → RunsAlone inputs.merge number (state_of old) (end_coordinator n (state_of old)) old new answer → Serves inputs number (KillCoordinator n) old new answer
   unfolding course_of
   kill_coordinator_serves n new runs = serves inputs number (KillCoordinator n) old new answer _ refl refl runs
 
-  pub stop_coordinator_serves : (n : ℕ) (new : FleetParts) → Runs inputs.merge number (state_of old) (end_coordinator n (state_of old)) old new answer → Serves inputs number (StopCoordinator n) old new answer
+  pub stop_coordinator_serves : (n : ℕ) (new : FleetParts) → RunsAlone inputs.merge number (state_of old) (end_coordinator n (state_of old)) old new answer → Serves inputs number (StopCoordinator n) old new answer
   unfolding course_of
   stop_coordinator_serves n new runs = serves inputs number (StopCoordinator n) old new answer _ refl refl runs
 
-  pub kill_worker_serves : (n : ℕ) (new : FleetParts) → Runs inputs.merge number (state_of old) (kill_worker n (state_of old)) old new answer → Serves inputs number (KillWorker n) old new answer
+  pub kill_worker_serves : (n : ℕ) (new : FleetParts) → RunsAlone inputs.merge number (state_of old) (kill_worker n (state_of old)) old new answer → Serves inputs number (KillWorker n) old new answer
   unfolding course_of
   kill_worker_serves n new runs = serves inputs number (KillWorker n) old new answer _ refl refl runs
 
-  pub stop_worker_serves : (n : ℕ) (new : FleetParts) → Runs inputs.merge number (state_of old) (stop_worker n (state_of old)) old new answer → Serves inputs number (StopWorker n) old new answer
+  pub stop_worker_serves : (n : ℕ) (new : FleetParts) → RunsAlone inputs.merge number (state_of old) (stop_worker n (state_of old)) old new answer → Serves inputs number (StopWorker n) old new answer
   unfolding course_of
   stop_worker_serves n new runs = serves inputs number (StopWorker n) old new answer _ refl refl runs
 
-  pub heartbeat_serves : (n : ℕ) (new : FleetParts) → Runs inputs.merge number (state_of old) (heartbeat_line n (state_of old)) old new answer → Serves inputs number (Heartbeat n) old new answer
+  pub heartbeat_serves : (n : ℕ) (new : FleetParts) → RunsAlone inputs.merge number (state_of old) (heartbeat_line n (state_of old)) old new answer → Serves inputs number (Heartbeat n) old new answer
   unfolding course_of
   heartbeat_serves n new runs = serves inputs number (Heartbeat n) old new answer _ refl refl runs
 
-  pub claim_serves : (n : ℕ) (new : FleetParts) → Runs inputs.merge number (state_of old) (claim_line n (state_of old)) old new answer → Serves inputs number (ClaimJobs n) old new answer
+  pub claim_serves : (n : ℕ) (new : FleetParts) → RunsAlone inputs.merge number (state_of old) (claim_line n (state_of old)) old new answer → Serves inputs number (ClaimJobs n) old new answer
   unfolding course_of
   claim_serves n new runs = serves inputs number (ClaimJobs n) old new answer _ refl refl runs
 

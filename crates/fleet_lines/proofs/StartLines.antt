@@ -34,7 +34,7 @@ use Rattle.step_model.specs.LawfulRecords.{OfSome}
 use Rattle.fleet_history.specs.declared.party.Party.TheVariants as party
 use Rattle.fleet_store.specs.Memory.{StoreParts}
 use Rattle.fleet_lines.specs.Fleets.{FleetParts, Stands, options_of, parties_of, state_of}
-use Rattle.fleet_lines.specs.Lines.{Runs}
+use Rattle.fleet_lines.specs.Lines.{RunsAlone}
 use Rattle.fleet_lines.specs.Steps.{Made, Noted, end_reply, epoch_said, error_reply, note_event, nothing}
 use Rattle.fleet_lines.proofs.Fails.{failed_alike}
 use Rattle.fleet_lines.proofs.Made.{error_says, ran_later, the_reply}
@@ -86,8 +86,8 @@ module _ (merge : Operator) (number n : ℕ) (old : FleetParts) (b : Bool) (mid 
   -- The line's course ended so and left these parties.
   runs : (store : StoreParts) (end : End LineEnd) (answer : List ℕ) (coordinators : List LiveCoordinator) → Ran who course.course old.store.world store.world old.store.waits store.waits end
       → run_line number (state_of old) course ≡ (answer, state_at (options_of old.options) old.moment store.world store.waits (record (parties_of old) { coordinators = coordinators })) → FleetKeeps merge store.world (record (parties_of old) { coordinators = coordinators })
-      → Runs merge number (state_of old) (start_coordinator n (state_of old)) old (record old { store = store; coordinators = coordinators }) answer
-  runs store end answer coordinators ran is keeps = subst (λ (c : Bool). Runs merge number (state_of old) (noted_line (Coordinator n) (calls_each (killed_first c (Coordinator n)) start) (start_notes n) ends gone) old (record old { store = store; coordinators = coordinators }) answer) was (record {
+      → RunsAlone merge number (state_of old) (start_coordinator n (state_of old)) old (record old { store = store; coordinators = coordinators }) answer
+  runs store end answer coordinators ran is keeps = subst (λ (c : Bool). RunsAlone merge number (state_of old) (noted_line (Coordinator n) (calls_each (killed_first c (Coordinator n)) start) (start_notes n) ends gone) old (record old { store = store; coordinators = coordinators }) answer) was (record {
     ends = is;
     stands = record {
       keeps = keeps;
@@ -103,12 +103,12 @@ module _ (merge : Operator) (number n : ℕ) (old : FleetParts) (b : Bool) (mid 
 
   -- The coordinator did not start.
   pub start_fails : (store : StoreParts) (coordinators : List LiveCoordinator) (e : SlateDBError) (answer : List ℕ) → Made (λ (c : LiveCoordinator). Reports c.epoch) start merge number (party.Coordinator n) mid store (Err e) → coordinators ≡ other_coordinators → error_reply e ≡ Some answer
-      → Runs merge number (state_of old) (start_coordinator n (state_of old)) old (record old { store = store; coordinators = coordinators }) answer
+      → RunsAlone merge number (state_of old) (start_coordinator n (state_of old)) old (record old { store = store; coordinators = coordinators }) answer
   start_fails store coordinators e answer made left says =
-      subst (λ (cs : List LiveCoordinator). Runs merge number (state_of old) (start_coordinator n (state_of old)) old (record old { store = store; coordinators = cs }) answer) (sym left)
+      subst (λ (cs : List LiveCoordinator). RunsAlone merge number (state_of old) (start_coordinator n (state_of old)) old (record old { store = store; coordinators = cs }) answer) (sym left)
       (by (Err e) (λ epoch is. absurd (cc is)) (failed_alike (λ (c : LiveCoordinator). Reports c.epoch) Reports start merge number (party.Coordinator n) mid store e made).ran (error_says Reports epoch_said e answer says).says)
     where
-      struck : Ran who start mid.world store.world mid.waits store.waits MeetsFault → end_reply epoch_said MeetsFault ≡ Some answer → Runs merge number (state_of old) (start_coordinator n (state_of old)) old (record old { store = store; coordinators = other_coordinators }) answer
+      struck : Ran who start mid.world store.world mid.waits store.waits MeetsFault → end_reply epoch_said MeetsFault ≡ Some answer → RunsAlone merge number (state_of old) (start_coordinator n (state_of old)) old (record old { store = store; coordinators = other_coordinators }) answer
       struck ran said =
           let whole = then_ran_struck who step (λ end. calls_each (start_notes n end) (Ends (ends end))) old.store.world store.world old.store.waits store.waits (first MeetsFault store ran) in
           runs store MeetsFault answer other_coordinators whole
@@ -117,7 +117,7 @@ module _ (merge : Operator) (number n : ℕ) (old : FleetParts) (b : Bool) (mid 
           (coordinator_goes merge number n old.store.world store.world (parties_of old) course.course MeetsFault lawful stands.keeps line_lawful (ran_runs who course.course old.store.world store.world old.store.waits store.waits MeetsFault whole))
 
       refused : (end : StepEnd ℕ) → start_notes n end ≡ [] → (ends end).parties ≡ gone → Ran who start mid.world store.world mid.waits store.waits (Gives end) → end_reply epoch_said (Gives end) ≡ Some answer
-          → Runs merge number (state_of old) (start_coordinator n (state_of old)) old (record old { store = store; coordinators = other_coordinators }) answer
+          → RunsAlone merge number (state_of old) (start_coordinator n (state_of old)) old (record old { store = store; coordinators = other_coordinators }) answer
       refused end none parties ran said =
           let last : Ran who (calls_each (start_notes n end) (Ends (ends end))) store.world store.world store.waits store.waits (Gives (ends end)) =
           subst (λ (notes : List Event). Ran who (calls_each notes (Ends (ends end))) store.world store.world store.waits store.waits (Gives (ends end))) (sym none) (refl, (λ alone. refl, refl)) in
@@ -129,7 +129,7 @@ module _ (merge : Operator) (number n : ℕ) (old : FleetParts) (b : Bool) (mid 
           (coordinator_goes merge number n old.store.world store.world (parties_of old) course.course (Gives (ends end)) lawful stands.keeps line_lawful (ran_runs who course.course old.store.world store.world old.store.waits store.waits (Gives (ends end)) whole))
 
       by : (result : Result ℕ SlateDBError) → ((epoch : ℕ) → result ≡ Ok epoch → ⊥) → OfSome (Ran who start mid.world store.world mid.waits store.waits) (end_of Reports result) → OfSome (λ end. end_reply epoch_said end ≡ Some answer) (end_of Reports result)
-          → Runs merge number (state_of old) (start_coordinator n (state_of old)) old (record old { store = store; coordinators = other_coordinators }) answer
+          → RunsAlone merge number (state_of old) (start_coordinator n (state_of old)) old (record old { store = store; coordinators = other_coordinators }) answer
       by (Ok epoch) failed runs said = absurd (failed epoch refl)
       by (Err error.StoreFault) failed runs said = struck runs said
       by (Err error.Memory) failed runs said = absurd (cc said)
@@ -151,7 +151,7 @@ module _ (merge : Operator) (number n : ℕ) (old : FleetParts) (b : Bool) (mid 
   -- The coordinator started with this epoch, and noted it.
   epoch_runs : (last store : StoreParts) (epoch : ℕ) (answer : List ℕ) → Keeps merge last.world → Made Reports start merge number (party.Coordinator n) mid last (Ok epoch) → CoordinatorHolds last.world (record { number = n; epoch = epoch }) None
       → Noted merge number (party.Coordinator n) (note_event true (party.Coordinator n) ∷ []) last store → answer ≡ epoch_said epoch
-      → Runs merge number (state_of old) (start_coordinator n (state_of old)) old (record old { store = store; coordinators = record { number = n; epoch = epoch } ∷ other_coordinators }) answer
+      → RunsAlone merge number (state_of old) (start_coordinator n (state_of old)) old (record old { store = store; coordinators = record { number = n; epoch = epoch } ∷ other_coordinators }) answer
   epoch_runs last store epoch answer kept made holds noted says =
       let ran = then_ran who step (λ end. calls_each (start_notes n end) (Ends (ends end))) old.store.world last.world store.world (Reports epoch) old.store.waits last.waits store.waits (Gives (ends (Reports epoch)))
       (first (Gives (Reports epoch)) last made.ran) (one_note who (Start (Coordinator n)) (ends (Reports epoch)) last.world store.world last.waits store.waits noted.ran) in
@@ -164,9 +164,9 @@ module _ (merge : Operator) (number n : ℕ) (old : FleetParts) (b : Bool) (mid 
   -- The coordinator started, and noted it.
   pub start_runs : (last store : StoreParts) (c : LiveCoordinator) (left coordinators : List LiveCoordinator) (answer : List ℕ) → c.number ≡ n → Keeps merge last.world → Made (λ (c : LiveCoordinator). Reports c.epoch) start merge number (party.Coordinator n) mid last (Ok c) → CoordinatorHolds last.world c None
       → Noted merge number (party.Coordinator n) (note_event true (party.Coordinator n) ∷ []) last store → answer ≡ epoch_said c.epoch → left ≡ other_coordinators → coordinators ≡ c ∷ left
-      → Runs merge number (state_of old) (start_coordinator n (state_of old)) old (record old { store = store; coordinators = coordinators }) answer
+      → RunsAlone merge number (state_of old) (start_coordinator n (state_of old)) old (record old { store = store; coordinators = coordinators }) answer
   start_runs last store c left coordinators answer is kept made holds noted says others put =
       let with_number : ℕ → LiveCoordinator = λ m. record { number = m; epoch = c.epoch } in
-      subst (λ (cs : List LiveCoordinator). Runs merge number (state_of old) (start_coordinator n (state_of old)) old (record old { store = store; coordinators = cs }) answer)
+      subst (λ (cs : List LiveCoordinator). RunsAlone merge number (state_of old) (start_coordinator n (state_of old)) old (record old { store = store; coordinators = cs }) answer)
       (sym (put ∙ (ap (λ (cs : List LiveCoordinator). c ∷ cs) others ∙ ap (λ (m : ℕ). with_number m ∷ other_coordinators) is)))
       (epoch_runs last store c.epoch answer kept (record { ran = made.ran }) (subst (λ (m : ℕ). CoordinatorHolds last.world (with_number m) None) is holds) noted says)

@@ -28,7 +28,7 @@ use Rattle.fleet_store.specs.Memory.{StoreParts}
 use Rattle.fleet_worker.specs.Workers.{WorkerParts, live_of}
 use Rattle.fleet_step.specs.Steps.{end_of}
 use Rattle.fleet_lines.specs.Fleets.{FleetParts, Stands, options_of, parties_of, state_of}
-use Rattle.fleet_lines.specs.Lines.{Runs}
+use Rattle.fleet_lines.specs.Lines.{RunsAlone}
 use Rattle.fleet_lines.specs.Steps.{Made, Noted, Says, end_reply, is_struck, note_event, released_said}
 use Rattle.fleet_lines.proofs.Made.{step_run, ran_later, the_reply}
 use Rattle.fleet_lines.proofs.NoteLines.{one_note, others, others_live, own_note}
@@ -62,7 +62,7 @@ module _ (merge : Operator) (number n : ℕ) (old : FleetParts) (w : WorkerParts
 
   -- The worker is not live after the line, however its course ended.
   runs : (store : StoreParts) (end : End LineEnd) (answer : List ℕ) → Ran who course.course old.store.world store.world old.store.waits store.waits end
-      → run_line number (state_of old) course ≡ (answer, state_at (options_of old.options) old.moment store.world store.waits gone) → Runs merge number (state_of old) (stop_worker n (state_of old)) old (record old { store = store; workers = others n old.workers }) answer
+      → run_line number (state_of old) course ≡ (answer, state_at (options_of old.options) old.moment store.world store.waits gone) → RunsAlone merge number (state_of old) (stop_worker n (state_of old)) old (record old { store = store; workers = others n old.workers }) answer
   runs store end answer ran is =
       let run = ran_runs who course.course old.store.world store.world old.store.waits store.waits end ran in
       record {
@@ -80,10 +80,10 @@ module _ (merge : Operator) (number n : ℕ) (old : FleetParts) (w : WorkerParts
 
   -- A fault struck a call of the release.
   pub stop_struck : (store : StoreParts) (result : Result (List ℕ) SlateDBError) (answer : List ℕ) → Made Reports (release_all (live_of w)) merge number (party.Worker w.number) old.store store result → is_struck result ≡ true → answer ≡ reply (codes "storefault" ∷ [])
-      → Runs merge number (state_of old) (stop_worker n (state_of old)) old (record old { store = store; workers = others n old.workers }) answer
+      → RunsAlone merge number (state_of old) (stop_worker n (state_of old)) old (record old { store = store; workers = others n old.workers }) answer
   stop_struck store result answer made struck says = by result made struck
     where
-      by : (result : Result (List ℕ) SlateDBError) → Made Reports (release_all (live_of w)) merge number (party.Worker w.number) old.store store result → is_struck result ≡ true → Runs merge number (state_of old) (stop_worker n (state_of old)) old (record old { store = store; workers = others n old.workers }) answer
+      by : (result : Result (List ℕ) SlateDBError) → Made Reports (release_all (live_of w)) merge number (party.Worker w.number) old.store store result → is_struck result ≡ true → RunsAlone merge number (state_of old) (stop_worker n (state_of old)) old (record old { store = store; workers = others n old.workers }) answer
       by (Err error.StoreFault) made e =
           let made_by = subst (λ (m : ℕ). Made Reports (release_all (live_of w)) merge number (party.Worker m) old.store store (Err error.StoreFault)) (sym is_number) made in
           let ran = then_ran_struck who (release_all (live_of w)) (λ end. calls_each (Kill (Worker n) ∷ []) (Ends (ends end))) old.store.world store.world old.store.waits store.waits made_by.ran in
@@ -98,7 +98,7 @@ module _ (merge : Operator) (number n : ℕ) (old : FleetParts) (w : WorkerParts
 
   -- The release ended otherwise, and then the worker noted that it goes.
   pub stop_runs : (mid store : StoreParts) (result : Result (List ℕ) SlateDBError) (answer : List ℕ) → Made Reports (release_all (live_of w)) merge number (party.Worker w.number) old.store mid result → is_struck result ≡ false → Says Reports released_said result answer
-      → Noted merge number (party.Worker n) (note_event false (party.Worker n) ∷ []) mid store → Runs merge number (state_of old) (stop_worker n (state_of old)) old (record old { store = store; workers = others n old.workers }) answer
+      → Noted merge number (party.Worker n) (note_event false (party.Worker n) ∷ []) mid store → RunsAlone merge number (state_of old) (stop_worker n (state_of old)) old (record old { store = store; workers = others n old.workers }) answer
   stop_runs mid store result answer made unstruck says noted =
       let run = step_run Reports released_said (release_all (live_of w)) merge number (party.Worker n) old.store mid result answer (subst (λ (m : ℕ). Made Reports (release_all (live_of w)) merge number (party.Worker m) old.store mid result) (sym is_number) made) says in
       by run.end (is_over result unstruck run.end run.is) run.ran run.says
@@ -111,7 +111,7 @@ module _ (merge : Operator) (number n : ℕ) (old : FleetParts) (w : WorkerParts
       is_over result e end is struck = absurd (cc (is, struck))
 
       by : (end : End (StepEnd (List ℕ))) → (end ≡ MeetsFault → ⊥) → Ran who (release_all (live_of w)) old.store.world mid.world old.store.waits mid.waits end → end_reply released_said end ≡ Some answer
-          → Runs merge number (state_of old) (stop_worker n (state_of old)) old (record old { store = store; workers = others n old.workers }) answer
+          → RunsAlone merge number (state_of old) (stop_worker n (state_of old)) old (record old { store = store; workers = others n old.workers }) answer
       by (Gives end) over ran said =
           let whole = then_ran who (release_all (live_of w)) (λ end. calls_each (Kill (Worker n) ∷ []) (Ends (ends end))) old.store.world mid.world store.world end old.store.waits mid.waits store.waits (Gives (ends end)) ran
           (one_note who (Kill (Worker n)) (ends end) mid.world store.world mid.waits store.waits noted.ran) in

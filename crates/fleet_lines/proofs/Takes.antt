@@ -10,7 +10,7 @@ use Rattle.script_model.specs.Lines.Starts.{end_coordinator, only_notes}
 use Rattle.fleet_history.specs.declared.party.Party.TheVariants as party
 use Rattle.fleet_store.specs.Memory.{StoreParts}
 use Rattle.fleet_lines.specs.Fleets.{FleetParts, Stands, parties_of, state_of}
-use Rattle.fleet_lines.specs.Lines.{Runs}
+use Rattle.fleet_lines.specs.Lines.{RunsAlone}
 use Rattle.fleet_lines.specs.Lists.{IsTaken}
 use Rattle.fleet_lines.specs.Steps.{Noted, note_event}
 use Rattle.fleet_lines.proofs.Lists.{none_of, some_of}
@@ -45,20 +45,20 @@ module _ (n : ℕ) (old : FleetParts) (result : Option (ℕ × LiveCoordinator))
 
   -- A line that names a coordinator that is not live.
   pub no_coordinator_runs : (merge : Operator) (number : ℕ) (act : LiveCoordinator → LineCourse) (answer : List ℕ) → Stands merge old → is_some result ≡ false → answer ≡ reply (codes "nosuchparty" ∷ [])
-      → Runs merge number (state_of old) (if_some (coordinator_with n (parties_of old)) (no_such_party (state_of old)) act) old (record old { coordinators = coordinators }) answer
+      → RunsAlone merge number (state_of old) (if_some (coordinator_with n (parties_of old)) (no_such_party (state_of old)) act) old (record old { coordinators = coordinators }) answer
   no_coordinator_runs merge number act answer stands none says =
-      subst (λ (cs : List LiveCoordinator). Runs merge number (state_of old) (if_some (coordinator_with n (parties_of old)) (no_such_party (state_of old)) act) old (record old { coordinators = cs }) answer) (sym (all_left none)) (record {
+      subst (λ (cs : List LiveCoordinator). RunsAlone merge number (state_of old) (if_some (coordinator_with n (parties_of old)) (no_such_party (state_of old)) act) old (record old { coordinators = cs }) answer) (sym (all_left none)) (record {
         ends = ap (λ (o : Option LiveCoordinator). run_line number (state_of old) (if_some o (no_such_party (state_of old)) act)) (none_live none) ∙ ap (λ (a : List ℕ). (a, state_of old)) (sym says);
         stands = stands;
         same_name = refl;
       })
 
-  pub no_end_runs : (merge : Operator) (number : ℕ) (answer : List ℕ) → Stands merge old → is_some result ≡ false → answer ≡ reply (codes "nosuchparty" ∷ []) → Runs merge number (state_of old) (end_coordinator n (state_of old)) old (record old { coordinators = coordinators }) answer
+  pub no_end_runs : (merge : Operator) (number : ℕ) (answer : List ℕ) → Stands merge old → is_some result ≡ false → answer ≡ reply (codes "nosuchparty" ∷ []) → RunsAlone merge number (state_of old) (end_coordinator n (state_of old)) old (record old { coordinators = coordinators }) answer
   no_end_runs merge number answer stands none says = no_coordinator_runs merge number (λ (c : LiveCoordinator). only_notes (Coordinator n) (Kill (Coordinator n) ∷ []) (state_of old) (without_coordinator n (parties_of old))) answer stands none says
 
   -- A line that ends one that is live.
   pub ended_runs : (merge : Operator) (number : ℕ) (store : StoreParts) (answer : List ℕ) → IsLawful merge → Stands merge old → true ≡ is_some result → Noted merge number (party.Coordinator n) (note_event false (party.Coordinator n) ∷ []) old.store store → answer ≡ ok
-      → Runs merge number (state_of old) (end_coordinator n (state_of old)) old (record old { store = store; coordinators = coordinators }) answer
+      → RunsAlone merge number (state_of old) (end_coordinator n (state_of old)) old (record old { store = store; coordinators = coordinators }) answer
   ended_runs merge number store answer lawful stands some noted says =
-      subst (λ (cs : List LiveCoordinator). Runs merge number (state_of old) (end_coordinator n (state_of old)) old (record old { store = store; coordinators = cs }) answer) (sym takes.others)
+      subst (λ (cs : List LiveCoordinator). RunsAlone merge number (state_of old) (end_coordinator n (state_of old)) old (record old { store = store; coordinators = cs }) answer) (sym takes.others)
       (end_coordinator_runs merge number n old store answer lawful stands (sym (was_live true some)) noted says)

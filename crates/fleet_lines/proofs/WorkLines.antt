@@ -19,7 +19,7 @@ use Rattle.step_laws.proofs.RanLaws.{ran_runs, ran_alone}
 use Rattle.commit_laws.proofs.AllCalls.{calls_keep}
 use Rattle.course_laws.proofs.Beats.{beats_are_lawful}
 use Rattle.script_model.specs.LineRuns.{LineCourse, if_some, no_such_party, step_parties}
-use Rattle.script_model.specs.Lines.WorkLines.{running, worker_line, heartbeat_line}
+use Rattle.script_model.specs.Lines.WorkLines.{parties_running, worker_line, heartbeat_line}
 use Rattle.script_model.specs.Replies.{beat_reply}
 use Rattle.line_laws.specs.States.{FleetKeeps}
 use Rattle.line_laws.proofs.AloneEnds.{EndsSo, RunEnds, RunStruck, RunEnded, run_ends}
@@ -36,7 +36,7 @@ use Rattle.fleet_worker.specs.Beats.{beat_ends, beaten_with}
 use Rattle.fleet_worker.specs.Workers.{AttemptParts, WorkerParts, attempt_of, live_of}
 use Rattle.fleet_worker.specs.declared.beat.BeatReport.{BeatReport}
 use Rattle.fleet_lines.specs.Fleets.{FleetParts, IsUp, Stands, options_of, parties_of, state_of}
-use Rattle.fleet_lines.specs.Lines.{Runs}
+use Rattle.fleet_lines.specs.Lines.{RunsAlone}
 use Rattle.fleet_lines.specs.Steps.{Made, MayWork, Says, end_reply}
 use Rattle.fleet_read.proofs.Trees.{find_map}
 use Rattle.fleet_lines.proofs.Made.{ran_later, step_ends}
@@ -100,10 +100,10 @@ module _ {A B : Type 0} (merge : Operator) (number : ℕ) (old : FleetParts) (w 
       (some_up old.store.world.store (λ v. not (n == v.number)) old.workers stands.up)
 
   -- The worker is no longer live.
-  gone : stopped ≡ true → Ran (caller_of merge number (Worker w.number)) step old.store.world store.world old.store.waits store.waits MeetsFault → end_reply spell MeetsFault ≡ Some answer → Runs merge number (state_of old) the_line old (after stopped) answer
-  gone e ran says = subst (λ (b : Bool). Runs merge number (state_of old) the_line old (after b) answer) (sym e) (record {
+  gone : stopped ≡ true → Ran (caller_of merge number (Worker w.number)) step old.store.world store.world old.store.waits store.waits MeetsFault → end_reply spell MeetsFault ≡ Some answer → RunsAlone merge number (state_of old) the_line old (after stopped) answer
+  gone e ran says = subst (λ (b : Bool). RunsAlone merge number (state_of old) the_line old (after b) answer) (sym e) (record {
     ends =
-        step_ends merge number (options_of old.options) old.moment (parties_of old) (party.Worker w.number) step spell (λ report. running (live_of w) (state_of old) (reported report)) (running (live_of w) (state_of old) refused) (without_worker w.number (parties_of old))
+        step_ends merge number (options_of old.options) old.moment (parties_of old) (party.Worker w.number) step spell (λ report. parties_running (live_of w) (state_of old) (reported report)) (parties_running (live_of w) (state_of old) refused) (without_worker w.number (parties_of old))
         old.store.world store.world old.store.waits store.waits answer MeetsFault ran says
         ∙ ap (λ (ws : List LiveWorker). (answer, state_at (options_of old.options) old.moment store.world store.waits (record { coordinators = old.coordinators; workers = ws }))) others_are;
     stands = record {
@@ -117,11 +117,11 @@ module _ {A B : Type 0} (merge : Operator) (number : ℕ) (old : FleetParts) (w 
 
   -- The worker is live and runs these attempts.
   goes_on : (end : StepEnd B) → stopped ≡ false → Ran (caller_of merge number (Worker w.number)) step old.store.world store.world old.store.waits store.waits (Gives end) → end_reply spell (Gives end) ≡ Some answer
-      → step_parties (λ report. running (live_of w) (state_of old) (reported report)) (running (live_of w) (state_of old) refused) end ≡ running (live_of w) (state_of old) (map attempt_of attempts)
-      → Runs merge number (state_of old) the_line old (after stopped) answer
-  goes_on end e ran says same = subst (λ (b : Bool). Runs merge number (state_of old) the_line old (after b) answer) (sym e) (record {
+      → step_parties (λ report. parties_running (live_of w) (state_of old) (reported report)) (parties_running (live_of w) (state_of old) refused) end ≡ parties_running (live_of w) (state_of old) (map attempt_of attempts)
+      → RunsAlone merge number (state_of old) the_line old (after stopped) answer
+  goes_on end e ran says same = subst (λ (b : Bool). RunsAlone merge number (state_of old) the_line old (after b) answer) (sym e) (record {
     ends =
-        step_ends merge number (options_of old.options) old.moment (parties_of old) (party.Worker w.number) step spell (λ report. running (live_of w) (state_of old) (reported report)) (running (live_of w) (state_of old) refused) (without_worker w.number (parties_of old))
+        step_ends merge number (options_of old.options) old.moment (parties_of old) (party.Worker w.number) step spell (λ report. parties_running (live_of w) (state_of old) (reported report)) (parties_running (live_of w) (state_of old) refused) (without_worker w.number (parties_of old))
         old.store.world store.world old.store.waits store.waits answer (Gives end) ran says
         ∙ ap (λ (parties : Parties). (answer, state_at (options_of old.options) old.moment store.world store.waits parties)) same
         ∙ ap (λ (ws : List LiveWorker). (answer, state_at (options_of old.options) old.moment store.world store.waits (record { coordinators = old.coordinators; workers = record (live_of w) { attempts = map attempt_of attempts } ∷ ws }))) others_are;
@@ -145,23 +145,23 @@ module _ {A B : Type 0} (merge : Operator) (number : ℕ) (old : FleetParts) (w 
   -- However the step ended. A report tells the worker's attempts, and the worker is never fenced.
   pub work_runs : (result : Result A SlateDBError) → stopped ≡ stops result → ((report : B) (a : A) → result ≡ Ok a → ends a ≡ Reports report → reported report ≡ map attempt_of attempts) → ((a : A) → (report : B) × (ends a ≡ Reports report))
       → Kept result → ((stored : ℕ) → P (Fenced stored) store.world.store → ⊥)
-      → Made ends step merge number (party.Worker w.number) old.store store result → Says ends spell result answer → Runs merge number (state_of old) the_line old (after stopped) answer
+      → Made ends step merge number (party.Worker w.number) old.store store result → Says ends spell result answer → RunsAlone merge number (state_of old) the_line old (after stopped) answer
   work_runs result is_stopped reports report_of kept unfenced made says = by result is_stopped reports kept made.ran says.says
     where
       ended : (end : StepEnd B) → Ran (caller_of merge number (Worker w.number)) step old.store.world store.world old.store.waits store.waits (Gives end) → P end store.world.store
       ended end ran = ended_so merge number w.number P end step old.store.world store.world old.store.waits store.waits so ran
 
       refuses : (e : SlateDBError) (end : StepEnd B) → Kept (Err e) → stopped ≡ false → end_of ends (Err e) ≡ Some (Gives end) → Ran (caller_of merge number (Worker w.number)) step old.store.world store.world old.store.waits store.waits (Gives end) → end_reply spell (Gives end) ≡ Some answer
-          → step_parties (λ report. running (live_of w) (state_of old) (reported report)) (running (live_of w) (state_of old) refused) end ≡ running (live_of w) (state_of old) refused
-          → Runs merge number (state_of old) the_line old (after stopped) answer
-      refuses e end kept is_on is_end ran says parties = goes_on end is_on ran says (parties ∙ ap (running (live_of w) (state_of old)) (kept e end refl is_end (ended end ran)))
+          → step_parties (λ report. parties_running (live_of w) (state_of old) (reported report)) (parties_running (live_of w) (state_of old) refused) end ≡ parties_running (live_of w) (state_of old) refused
+          → RunsAlone merge number (state_of old) the_line old (after stopped) answer
+      refuses e end kept is_on is_end ran says parties = goes_on end is_on ran says (parties ∙ ap (parties_running (live_of w) (state_of old)) (kept e end refl is_end (ended end ran)))
 
       by : (result : Result A SlateDBError) → stopped ≡ stops result → ((report : B) (a : A) → result ≡ Ok a → ends a ≡ Reports report → reported report ≡ map attempt_of attempts) → Kept result
           → OfSome (Ran (caller_of merge number (Worker w.number)) step old.store.world store.world old.store.waits store.waits) (end_of ends result) → OfSome (λ end. end_reply spell end ≡ Some answer) (end_of ends result)
-          → Runs merge number (state_of old) the_line old (after stopped) answer
+          → RunsAlone merge number (state_of old) the_line old (after stopped) answer
       by (Ok a) e reports kept runs said =
           let r = report_of a in
-          goes_on (ends a) e runs said (ap (step_parties (λ report. running (live_of w) (state_of old) (reported report)) (running (live_of w) (state_of old) refused)) r.1 ∙ ap (running (live_of w) (state_of old)) (reports r.0 a refl r.1))
+          goes_on (ends a) e runs said (ap (step_parties (λ report. parties_running (live_of w) (state_of old) (reported report)) (parties_running (live_of w) (state_of old) refused)) r.1 ∙ ap (parties_running (live_of w) (state_of old)) (reports r.0 a refl r.1))
       by (Err error.StoreFault) e reports kept runs said = gone e runs said
       by (Err error.Memory) e reports kept runs said = absurd (cc said)
       by (Err (error.Conflict seen)) e reports kept runs said = refuses (error.Conflict seen) (GivesUp seen) kept e refl runs said refl
@@ -185,10 +185,10 @@ module _ {A B : Type 0} (merge : Operator) (number : ℕ) (old : FleetParts) (w 
 pub beat_runs : (merge : Operator) (number n : ℕ) (old : FleetParts) (w : WorkerParts) (attempts : List AttemptParts) (stopped : Bool) (store : StoreParts) (result : Result BeatReport SlateDBError) (answer : List ℕ) → IsLawful merge → Stands merge old
     → find (λ (w : WorkerParts). n == w.number) old.workers ≡ Some w → stopped ≡ stops result → OnErr result (attempts ≡ w.attempts) → OnFalse stopped (MayWork merge store.world (record w { attempts = attempts; stopped = stopped }))
     → Made (beat_ends attempts) (heartbeat old.moment (live_of w)) merge number (party.Worker w.number) old.store store result → Says (beat_ends attempts) (λ r. beat_reply r.beat r.not_owner) result answer
-    → Runs merge number (state_of old) (heartbeat_line n (state_of old)) old (record old { store = store; workers = cond stopped (others n old.workers) (record w { attempts = attempts; stopped = stopped } ∷ others n old.workers) }) answer
+    → RunsAlone merge number (state_of old) (heartbeat_line n (state_of old)) old (record old { store = store; workers = cond stopped (others n old.workers) (record w { attempts = attempts; stopped = stopped } ∷ others n old.workers) }) answer
 beat_runs merge number n old w attempts stopped store result answer lawful stands there is_stopped same may made says =
     let f = is_found merge old n w stands there in
-    subst (λ (c : LineCourse). Runs merge number (state_of old) c old (record old { store = store; workers = cond stopped (others n old.workers) (record w { attempts = attempts; stopped = stopped } ∷ others n old.workers) }) answer)
+    subst (λ (c : LineCourse). RunsAlone merge number (state_of old) c old (record old { store = store; workers = cond stopped (others n old.workers) (record w { attempts = attempts; stopped = stopped } ∷ others n old.workers) }) answer)
     (sym (at_found n old w (no_such_party (state_of old)) (λ w. worker_line w (state_of old) (heartbeat old.moment w) (λ r. beat_reply r.beat r.not_owner) (λ r. r.attempts) w.attempts) there))
     (work_runs merge number old w attempts stopped store (beat_ends attempts) (λ r. beat_reply r.beat r.not_owner) (λ r. r.attempts) (map attempt_of w.attempts) (heartbeat old.moment (live_of w)) answer lawful stands n f.number
     (beats_are_lawful (caller_of merge number (Worker w.number)) old.store.world old.moment (live_of w) (calls_keep merge lawful) refl stands.keeps.store f.may.holds) Reported (beat_so number (Worker w.number) old.moment (live_of w) old.store.world.store) may

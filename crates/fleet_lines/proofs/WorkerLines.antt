@@ -28,10 +28,10 @@ use Rattle.fleet_jobs.specs.declared.release.Release.{Release}
 use Rattle.fleet_step.specs.Steps.{end_of, stops}
 use Rattle.fleet_store.specs.Memory.{StoreParts}
 use Rattle.fleet_worker.specs.Beats.{beat_ends}
-use Rattle.fleet_worker.specs.Workers.{AttemptParts, WorkerParts, live_of, started}
+use Rattle.fleet_worker.specs.Workers.{AttemptParts, WorkerParts, live_of, started_worker}
 use Rattle.fleet_worker.specs.declared.beat.BeatReport.{BeatReport}
 use Rattle.fleet_lines.specs.Fleets.{FleetParts, Stands, state_of}
-use Rattle.fleet_lines.specs.Lines.{Runs}
+use Rattle.fleet_lines.specs.Lines.{RunsAlone}
 use Rattle.fleet_lines.specs.Steps.{Made, MayWork, Noted, Says, is_struck, note_event, released_said}
 use Rattle.fleet_lines.proofs.Named.{found_old, kept_workers}
 use Rattle.fleet_lines.proofs.NoteLines.{kill_worker_runs, others, start_worker_runs}
@@ -48,24 +48,24 @@ none_there (Some w) e = absurd (cc e)
 -- What a fleet did to start a worker runs the line, if the fleet gives a reply.
 pub start_said : (merge : Operator) (number n : ℕ) (release : Option ℕ) (named : Release) (was_live : Bool) (old seen : FleetParts) (taken : Option WorkerParts) (w : WorkerParts) (left workers : List WorkerParts) (mid store : StoreParts) (said : Result (List ℕ) SlateDBError) → IsLawful merge → Stands merge old
     → seen ≡ old → taken ≡ find (λ (w : WorkerParts). n == w.number) seen.workers → left ≡ others n seen.workers → was_live ≡ is_some taken → Noted merge number (party.Worker n) (killed_first was_live (Worker n)) seen.store mid
-    → Noted merge number (party.Worker n) (note_event true (party.Worker n) ∷ []) mid store → release_of named ≡ release_named release → w ≡ started n named → workers ≡ cond w.stopped left (w ∷ left) → IfOk said (λ (answer : List ℕ). answer ≡ ok)
-    → IfOk said (Runs merge number (state_of old) (start_worker n release (state_of old)) old (record seen { store = store; workers = workers }))
+    → Noted merge number (party.Worker n) (note_event true (party.Worker n) ∷ []) mid store → release_of named ≡ release_named release → w ≡ started_worker n named → workers ≡ cond w.stopped left (w ∷ left) → IfOk said (λ (answer : List ℕ). answer ≡ ok)
+    → IfOk said (RunsAlone merge number (state_of old) (start_worker n release (state_of old)) old (record seen { store = store; workers = workers }))
 start_said merge number n release named was_live old seen taken w left workers mid store (Err e) lawful stands same found lefts was killed noted is_named is are says = tt
 start_said merge number n release named was_live old seen taken w left workers mid store (Ok answer) lawful stands same found lefts was killed noted is_named is are says =
-    let all : workers ≡ started n named ∷ others n old.workers = are ∙ (ap (λ (v : WorkerParts). cond v.stopped left (v ∷ left)) is ∙ ap (λ (ws : List WorkerParts). started n named ∷ ws) (lefts ∙ ap (λ (f : FleetParts). others n f.workers) same)) in
-    subst (λ (f : FleetParts). Runs merge number (state_of old) (start_worker n release (state_of old)) old (record f { store = store; workers = workers }) answer) (sym same)
-    (subst (λ (ws : List WorkerParts). Runs merge number (state_of old) (start_worker n release (state_of old)) old (record old { store = store; workers = ws }) answer) (sym all)
+    let all : workers ≡ started_worker n named ∷ others n old.workers = are ∙ (ap (λ (v : WorkerParts). cond v.stopped left (v ∷ left)) is ∙ ap (λ (ws : List WorkerParts). started_worker n named ∷ ws) (lefts ∙ ap (λ (f : FleetParts). others n f.workers) same)) in
+    subst (λ (f : FleetParts). RunsAlone merge number (state_of old) (start_worker n release (state_of old)) old (record f { store = store; workers = workers }) answer) (sym same)
+    (subst (λ (ws : List WorkerParts). RunsAlone merge number (state_of old) (start_worker n release (state_of old)) old (record old { store = store; workers = ws }) answer) (sym all)
     (start_worker_runs merge number n release named was_live old mid store answer lawful stands is_named (was ∙ (ap (λ (o : Option WorkerParts). is_some o) found ∙ ap (λ (f : FleetParts). is_some (find (λ (w : WorkerParts). n == w.number) f.workers)) same))
     (subst (λ (f : FleetParts). Noted merge number (party.Worker n) (killed_first was_live (Worker n)) f.store mid) same killed) noted says))
 
 pub kill_said : (merge : Operator) (number n : ℕ) (old seen : FleetParts) (taken : Option WorkerParts) (left : List WorkerParts) (store : StoreParts) (said : Result (List ℕ) SlateDBError) → IsLawful merge → Stands merge old → seen ≡ old
     → taken ≡ find (λ (w : WorkerParts). n == w.number) seen.workers → left ≡ others n seen.workers → is_some taken ≡ true → Noted merge number (party.Worker n) (note_event false (party.Worker n) ∷ []) seen.store store → IfOk said (λ (answer : List ℕ). answer ≡ ok)
-    → IfOk said (Runs merge number (state_of old) (kill_worker n (state_of old)) old (record seen { store = store; workers = left }))
+    → IfOk said (RunsAlone merge number (state_of old) (kill_worker n (state_of old)) old (record seen { store = store; workers = left }))
 kill_said merge number n old seen taken left store (Err e) lawful stands same found are live noted says = tt
 kill_said merge number n old seen taken left store (Ok answer) lawful stands same found are live noted says =
     let was_live : is_some (find (λ (w : WorkerParts). n == w.number) old.workers) ≡ true = ap (λ (f : FleetParts). is_some (find (λ (w : WorkerParts). n == w.number) f.workers)) (sym same) ∙ (ap (λ (o : Option WorkerParts). is_some o) (sym found) ∙ live) in
-    subst (λ (f : FleetParts). Runs merge number (state_of old) (kill_worker n (state_of old)) old (record f { store = store; workers = left }) answer) (sym same)
-    (subst (λ (ws : List WorkerParts). Runs merge number (state_of old) (kill_worker n (state_of old)) old (record old { store = store; workers = ws }) answer) (sym (are ∙ ap (λ (f : FleetParts). others n f.workers) same))
+    subst (λ (f : FleetParts). RunsAlone merge number (state_of old) (kill_worker n (state_of old)) old (record f { store = store; workers = left }) answer) (sym same)
+    (subst (λ (ws : List WorkerParts). RunsAlone merge number (state_of old) (kill_worker n (state_of old)) old (record old { store = store; workers = ws }) answer) (sym (are ∙ ap (λ (f : FleetParts). others n f.workers) same))
     (kill_worker_runs merge number n old store answer lawful stands was_live (subst (λ (f : FleetParts). Noted merge number (party.Worker n) (note_event false (party.Worker n) ∷ []) f.store store) same noted) says))
 
 -- ---- heartbeats
@@ -74,13 +74,13 @@ kill_said merge number n old seen taken left store (Ok answer) lawful stands sam
 pub beat_said : (merge : Operator) (number n : ℕ) (old seen : FleetParts) (taken : Option WorkerParts) (w after : WorkerParts) (left workers : List WorkerParts) (store : StoreParts) (result : Result BeatReport SlateDBError) (said : Result (List ℕ) SlateDBError) → IsLawful merge → Stands merge old → seen ≡ old
     → taken ≡ find (λ (w : WorkerParts). n == w.number) seen.workers → left ≡ others n seen.workers → taken ≡ Some w → after.stopped ≡ stops result → after ≡ record w { attempts = after.attempts; stopped = after.stopped } → OnErr result (after.attempts ≡ w.attempts)
     → OnFalse after.stopped (MayWork merge store.world after) → Made (beat_ends after.attempts) (heartbeat seen.moment (live_of w)) merge number (party.Worker w.number) seen.store store result → workers ≡ cond after.stopped left (after ∷ left)
-    → IfOk said (λ (answer : List ℕ). (attempts : List AttemptParts) → Says (beat_ends attempts) (λ r. beat_reply r.beat r.not_owner) result answer) → IfOk said (Runs merge number (state_of old) (heartbeat_line n (state_of old)) old (record seen { store = store; workers = workers }))
+    → IfOk said (λ (answer : List ℕ). (attempts : List AttemptParts) → Says (beat_ends attempts) (λ r. beat_reply r.beat r.not_owner) result answer) → IfOk said (RunsAlone merge number (state_of old) (heartbeat_line n (state_of old)) old (record seen { store = store; workers = workers }))
 beat_said merge number n old seen taken w after left workers store result (Err e) lawful stands same found lefts is stopped kept unchanged may made are says = tt
 beat_said merge number n old seen taken w after left workers store result (Ok answer) lawful stands same found lefts is stopped kept unchanged may made are says =
     let there = found_old n old seen taken (Some w) same found is in
     let all = kept_workers n old seen w after left workers same lefts kept are in
-    subst (λ (f : FleetParts). Runs merge number (state_of old) (heartbeat_line n (state_of old)) old (record f { store = store; workers = workers }) answer) (sym same)
-    (subst (λ (ws : List WorkerParts). Runs merge number (state_of old) (heartbeat_line n (state_of old)) old (record old { store = store; workers = ws }) answer) (sym all)
+    subst (λ (f : FleetParts). RunsAlone merge number (state_of old) (heartbeat_line n (state_of old)) old (record f { store = store; workers = workers }) answer) (sym same)
+    (subst (λ (ws : List WorkerParts). RunsAlone merge number (state_of old) (heartbeat_line n (state_of old)) old (record old { store = store; workers = ws }) answer) (sym all)
     (beat_runs merge number n old w after.attempts after.stopped store result answer lawful stands there stopped unchanged (subst (λ (v : WorkerParts). OnFalse after.stopped (MayWork merge store.world v)) kept may)
     (subst (λ (f : FleetParts). Made (beat_ends after.attempts) (heartbeat f.moment (live_of w)) merge number (party.Worker w.number) f.store store result) same made) (says after.attempts)))
 
@@ -105,14 +105,14 @@ module _ (merge : Operator) (number n : ℕ) (old seen : FleetParts) (taken : Op
   there = found_old n old seen taken (Some w) same found is
 
   -- The fleet that the line leaves, seen as the code leaves it.
-  as_left : (store : StoreParts) (answer : List ℕ) → Runs merge number (state_of old) (stop_worker n (state_of old)) old (record old { store = store; workers = others n old.workers }) answer → Runs merge number (state_of old) (stop_worker n (state_of old)) old (record seen { store = store; workers = left }) answer
+  as_left : (store : StoreParts) (answer : List ℕ) → RunsAlone merge number (state_of old) (stop_worker n (state_of old)) old (record old { store = store; workers = others n old.workers }) answer → RunsAlone merge number (state_of old) (stop_worker n (state_of old)) old (record seen { store = store; workers = left }) answer
   as_left store answer runs =
-      subst (λ (f : FleetParts). Runs merge number (state_of old) (stop_worker n (state_of old)) old (record f { store = store; workers = left }) answer) (sym same)
-      (subst (λ (ws : List WorkerParts). Runs merge number (state_of old) (stop_worker n (state_of old)) old (record old { store = store; workers = ws }) answer) (sym (lefts ∙ ap (λ (f : FleetParts). others n f.workers) same)) runs)
+      subst (λ (f : FleetParts). RunsAlone merge number (state_of old) (stop_worker n (state_of old)) old (record f { store = store; workers = left }) answer) (sym same)
+      (subst (λ (ws : List WorkerParts). RunsAlone merge number (state_of old) (stop_worker n (state_of old)) old (record old { store = store; workers = ws }) answer) (sym (lefts ∙ ap (λ (f : FleetParts). others n f.workers) same)) runs)
 
   -- A fault struck the release.
   pub struck_said : (store : StoreParts) (result : Result (List ℕ) SlateDBError) (said : Result (List ℕ) SlateDBError) → Made Reports (release_all (live_of w)) merge number (party.Worker w.number) seen.store store result → is_struck result ≡ true
-      → IfOk said (λ (answer : List ℕ). answer ≡ reply (codes "storefault" ∷ [])) → IfOk said (Runs merge number (state_of old) (stop_worker n (state_of old)) old (record seen { store = store; workers = left }))
+      → IfOk said (λ (answer : List ℕ). answer ≡ reply (codes "storefault" ∷ [])) → IfOk said (RunsAlone merge number (state_of old) (stop_worker n (state_of old)) old (record seen { store = store; workers = left }))
   struck_said store result (Err e) made struck says = tt
   struck_said store result (Ok answer) made struck says =
       as_left store answer (stop_struck merge number n old w lawful stands there store result answer (subst (λ (f : FleetParts). Made Reports (release_all (live_of w)) merge number (party.Worker w.number) f.store store result) same made) struck says)
@@ -120,7 +120,7 @@ module _ (merge : Operator) (number n : ℕ) (old seen : FleetParts) (taken : Op
   -- The release ended otherwise, and the worker noted that it goes.
   pub stop_said : (mid store : StoreParts) (result : Result (List ℕ) SlateDBError) (said : Result (List ℕ) SlateDBError) → Made Reports (release_all (live_of w)) merge number (party.Worker w.number) seen.store mid result → is_struck result ≡ false
       → Noted merge number (party.Worker n) (note_event false (party.Worker n) ∷ []) mid store → IfOk said (Says Reports released_said result)
-      → IfOk said (Runs merge number (state_of old) (stop_worker n (state_of old)) old (record seen { store = store; workers = left }))
+      → IfOk said (RunsAlone merge number (state_of old) (stop_worker n (state_of old)) old (record seen { store = store; workers = left }))
   stop_said mid store result (Err e) made unstruck noted says = tt
   stop_said mid store result (Ok answer) made unstruck noted says =
       as_left store answer (stop_runs merge number n old w lawful stands there mid store result answer (subst (λ (f : FleetParts). Made Reports (release_all (live_of w)) merge number (party.Worker w.number) f.store mid result) same made) unstruck says noted)

@@ -8,7 +8,7 @@ use Rattle.script_model.specs.LineSteps.{OneCourse}
 use Rattle.fleet_lines.specs.Fleets.{FleetParts, Stands, state_of}
 
 -- The run of this course in the prepared state gives the reply and leads to the new fleet, which stands.
-pub record Runs (merge : Operator) (number : ℕ) (prepared : State) (course : LineCourse) (old new : FleetParts)
+pub record RunsAlone (merge : Operator) (number : ℕ) (prepared : State) (course : LineCourse) (old new : FleetParts)
     (answer : List ℕ) : Type 0 where
   pub ends : run_line number prepared course ≡ (answer, state_of new)
   pub stands : Stands merge new

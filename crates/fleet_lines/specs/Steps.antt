@@ -97,7 +97,7 @@ pub record Says {A B : Type 0} (ends : A → StepEnd B) (spell : B → List ℕ)
   pub says : OfSome (λ end. end_reply spell end ≡ Some answer) (end_of ends result)
 
 -- The reply to a submission, with its jobs after this word.
-abbrev pub jobs_said : List ℕ → List ℕ → List ℕ
+abbrev pub jobs_said : (word jobs : List ℕ) → List ℕ
 jobs_said word jobs = reply (codes "ok" ∷ word ∷ jobs_text jobs ∷ [])
 
 -- The reply to the start of a coordinator, with its epoch.
@@ -114,8 +114,8 @@ is_struck (Err StoreFault) = true
 is_struck result = false
 
 -- The report of a poll as replies print it.
-abbrev pub printed : PollReport → text.PollReport
-printed r = record {
+abbrev pub printed_report : PollReport → text.PollReport
+printed_report r = record {
   freed = r.freed;
   done = r.committed;
   lost = r.lost;
@@ -129,6 +129,6 @@ printed r = record {
 
 -- The reply to a poll with this report.
 abbrev pub report_said : (commits_only : Bool) → PollReport → List ℕ
-report_said false r = polled_text (printed r)
+report_said false r = polled_text (printed_report r)
 report_said true r =
     reply (codes "ok" ∷ codes "done" ∷ jobs_text r.committed ∷ codes "lost" ∷ rules_text r.lost ∷ [])

@@ -9,7 +9,7 @@ ghost use Rattle.fleet_text.specs.Printed.{attempt_begun};
 ghost use Rattle.fleet_worker.specs.Claims.{attempts_at, claim_ends};
 ghost use Rattle.fleet_worker.specs.Workers.{attempt_of};
 ghost use Rattle.fleet_lines.specs.Fleets.{Stands, state_of};
-ghost use Rattle.fleet_lines.specs.Lines.{Runs};
+ghost use Rattle.fleet_lines.specs.Lines.{RunsAlone};
 ghost use Rattle.fleet_lines.specs.Steps.{Says};
 
 use crate::Fleet;
@@ -105,7 +105,7 @@ impl Fleet {
         worker: u64,
     ) -> Result<Reply, SlateDBError>
         requires { Stands (O.merged (O.settings operator.now)) self.old }
-        ensures ran { IfOk result (Runs (O.merged (O.settings operator.now)) number
+        ensures ran { IfOk result (RunsAlone (O.merged (O.settings operator.now)) number
             (state_of self.old) (lines.claim_line worker (state_of self.old))
             self.old self.new) }
         ensures memory { IsOkUnless result SlateDBError.Memory }

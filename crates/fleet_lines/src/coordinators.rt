@@ -6,8 +6,8 @@ ghost use Rattle.line_laws.specs.Lines.PollLines.{spell_poll};
 ghost use Rattle.script_model.specs.Lines.PollLines.{polls};
 ghost use Rattle.script_model.specs.Lines.Starts as lines;
 ghost use Rattle.fleet_lines.specs.Fleets.{Stands, state_of};
-ghost use Rattle.fleet_lines.specs.Lines.{Runs};
-ghost use Rattle.fleet_lines.specs.Steps.{printed, report_said};
+ghost use Rattle.fleet_lines.specs.Lines.{RunsAlone};
+ghost use Rattle.fleet_lines.specs.Steps.{printed_report, report_said};
 
 use crate::Fleet;
 use crate::parties::{put_back, put_coordinator, take_coordinator};
@@ -23,7 +23,7 @@ use std::alloc::Global;
 
 // The report of a poll as replies print it.
 fn printed(report: PollReport) -> fleet_text::PollReport
-    ensures { result ≡ printed report }
+    ensures { result ≡ printed_report report }
 {
     fleet_text::PollReport {
         freed: report.freed,
@@ -63,7 +63,7 @@ impl Fleet {
         coordinator: u64,
     ) -> Result<Reply, SlateDBError>
         requires { Stands (O.merged (O.settings operator.now)) self.old }
-        ensures ran { IfOk result (Runs (O.merged (O.settings operator.now)) number
+        ensures ran { IfOk result (RunsAlone (O.merged (O.settings operator.now)) number
             (state_of self.old) (lines.start_coordinator coordinator (state_of self.old))
             self.old self.new) }
         ensures memory { IsOkUnless result SlateDBError.Memory }
@@ -90,7 +90,7 @@ impl Fleet {
         coordinator: u64,
     ) -> Result<Reply, SlateDBError>
         requires { Stands (O.merged (O.settings operator.now)) self.old }
-        ensures ran { IfOk result (Runs (O.merged (O.settings operator.now)) number
+        ensures ran { IfOk result (RunsAlone (O.merged (O.settings operator.now)) number
             (state_of self.old) (lines.end_coordinator coordinator (state_of self.old))
             self.old self.new) }
         ensures memory { IsOkUnless result SlateDBError.Memory }
@@ -113,7 +113,7 @@ impl Fleet {
         commits_only: bool,
     ) -> Result<Reply, SlateDBError>
         requires { Stands (O.merged (O.settings operator.now)) self.old }
-        ensures ran { IfOk result (Runs (O.merged (O.settings operator.now)) number
+        ensures ran { IfOk result (RunsAlone (O.merged (O.settings operator.now)) number
             (state_of self.old) (polls commits_only (spell_poll commits_only) (record {
               merge = O.merged (O.settings operator.now);
               scheduler = answers scheduler.now;

@@ -9,7 +9,7 @@ ghost use Rattle.script_model.specs.Lines.Flushes.{flush_line};
 ghost use Rattle.script_model.specs.Replies.{ok};
 ghost use Rattle.fleet_rows.specs.Row.{rows_of};
 ghost use Rattle.fleet_lines.specs.Fleets.{IsServing, state_of};
-ghost use Rattle.fleet_lines.specs.Lines.{Runs};
+ghost use Rattle.fleet_lines.specs.Lines.{RunsAlone};
 ghost use Rattle.fleet_lines.specs.Steps.{Says};
 
 use crate::Fleet;
@@ -60,7 +60,7 @@ impl Fleet {
     ) -> Result<Reply, SlateDBError>
         requires serving { IsServing (O.merged (O.settings operator.now)) self.old }
         requires may { MayAsk (coordinator.ask_of ask) }
-        ensures ran { IfOk result (Runs (O.merged (O.settings operator.now)) number
+        ensures ran { IfOk result (RunsAlone (O.merged (O.settings operator.now)) number
             (state_of self.old) (flush_line ask.name ask.segment ask.floor ask.tick
             (rows_of ask.rows) (state_of self.old)) self.old self.new) }
         ensures memory { IsOkUnless result SlateDBError.Memory }

@@ -5,7 +5,7 @@ ghost use Rattle.fleet_rows.specs.declared.errors.SlateDBError.TheVariants as Sl
 ghost use Rattle.fleet_jobs.specs.Workers.{release_of};
 ghost use Rattle.script_model.specs.Lines.Starts as lines;
 ghost use Rattle.fleet_lines.specs.Fleets.{Stands, state_of};
-ghost use Rattle.fleet_lines.specs.Lines.{Runs};
+ghost use Rattle.fleet_lines.specs.Lines.{RunsAlone};
 
 use crate::Fleet;
 use crate::parties::{keep_worker, take_worker};
@@ -37,7 +37,7 @@ impl Fleet {
         release: Option<u64>,
     ) -> Result<Reply, SlateDBError>
         requires { Stands (O.merged (O.settings operator.now)) self.old }
-        ensures ran { IfOk result (Runs (O.merged (O.settings operator.now)) number
+        ensures ran { IfOk result (RunsAlone (O.merged (O.settings operator.now)) number
             (state_of self.old) (lines.start_worker worker release (state_of self.old))
             self.old self.new) }
         ensures memory { IsOkUnless result SlateDBError.Memory }
@@ -59,7 +59,7 @@ impl Fleet {
         worker: u64,
     ) -> Result<Reply, SlateDBError>
         requires { Stands (O.merged (O.settings operator.now)) self.old }
-        ensures ran { IfOk result (Runs (O.merged (O.settings operator.now)) number
+        ensures ran { IfOk result (RunsAlone (O.merged (O.settings operator.now)) number
             (state_of self.old) (lines.kill_worker worker (state_of self.old))
             self.old self.new) }
         ensures memory { IsOkUnless result SlateDBError.Memory }

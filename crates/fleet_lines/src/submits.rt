@@ -9,7 +9,7 @@ ghost use Rattle.fleet_text.specs.Lines.{node_of, nodes_of};
 ghost use Rattle.step_model.specs.Courses.StepEnds.{Reports};
 ghost use Rattle.script_model.specs.Lines.Submits.{full_line, request_of, submit_line};
 ghost use Rattle.fleet_lines.specs.Fleets.{Stands, state_of};
-ghost use Rattle.fleet_lines.specs.Lines.{Runs};
+ghost use Rattle.fleet_lines.specs.Lines.{RunsAlone};
 ghost use Rattle.fleet_lines.specs.Steps.{Says, jobs_said};
 
 use crate::Fleet;
@@ -127,7 +127,7 @@ impl Fleet {
         spec: CompactionSpec,
     ) -> Result<Reply, SlateDBError>
         requires { Stands (O.merged (O.settings operator.now)) self.old }
-        ensures ran { IfOk result (Runs (O.merged (O.settings operator.now)) number
+        ensures ran { IfOk result (RunsAlone (O.merged (O.settings operator.now)) number
             (state_of self.old) (submit_line (model.spec_of spec) (state_of self.old))
             self.old self.new) }
         ensures memory { IsOkUnless result SlateDBError.Memory }
@@ -154,7 +154,7 @@ impl Fleet {
         segment: Option<Bytes>,
     ) -> Result<Reply, SlateDBError>
         requires { Stands (O.merged (O.settings operator.now)) self.old }
-        ensures ran { IfOk result (Runs (O.merged (O.settings operator.now)) number
+        ensures ran { IfOk result (RunsAlone (O.merged (O.settings operator.now)) number
             (state_of self.old) (full_line (record {
               merge = O.merged (O.settings operator.now);
               scheduler = answers scheduler.now;

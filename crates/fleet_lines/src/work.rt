@@ -8,7 +8,7 @@ ghost use Rattle.script_model.specs.Replies as replies;
 ghost use Rattle.fleet_worker.specs.Beats.{beat_ends};
 ghost use Rattle.fleet_worker.specs.Workers.{AttemptParts};
 ghost use Rattle.fleet_lines.specs.Fleets.{Stands, state_of};
-ghost use Rattle.fleet_lines.specs.Lines.{Runs};
+ghost use Rattle.fleet_lines.specs.Lines.{RunsAlone};
 ghost use Rattle.fleet_lines.specs.Steps.{Says, is_struck, released_said};
 
 use crate::Fleet;
@@ -67,7 +67,7 @@ impl Fleet {
         worker: u64,
     ) -> Result<Reply, SlateDBError>
         requires { Stands (O.merged (O.settings operator.now)) self.old }
-        ensures ran { IfOk result (Runs (O.merged (O.settings operator.now)) number
+        ensures ran { IfOk result (RunsAlone (O.merged (O.settings operator.now)) number
             (state_of self.old) (lines.heartbeat_line worker (state_of self.old))
             self.old self.new) }
         ensures memory { IsOkUnless result SlateDBError.Memory }
@@ -88,7 +88,7 @@ impl Fleet {
         worker: u64,
     ) -> Result<Reply, SlateDBError>
         requires { Stands (O.merged (O.settings operator.now)) self.old }
-        ensures ran { IfOk result (Runs (O.merged (O.settings operator.now)) number
+        ensures ran { IfOk result (RunsAlone (O.merged (O.settings operator.now)) number
             (state_of self.old) (lines.stop_worker worker (state_of self.old))
             self.old self.new) }
         ensures memory { IsOkUnless result SlateDBError.Memory }

@@ -21,7 +21,7 @@ use Rattle.fleet_store.specs.Strikes.{answer_under, performed_under, strike_by, 
 use Rattle.fleet_store.proofs.Calls.{called_is, same_history_under}
 use Rattle.fleet_lock.specs.Held.{last_from}
 use Rattle.fleet_lock.specs.Counts.{claims_of, commits_of, length_of}
-use Rattle.fleet_lock.specs.Steps.{IsStep, AreSteps}
+use Rattle.fleet_lock.specs.Steps.{CallLeads, CallsLead}
 
 -- ---- lists of states
 
@@ -33,15 +33,15 @@ pub last_append : (first : StoreParts) (xs ys : List StoreParts) → last_from f
 last_append first [] ys = refl
 last_append first (x ∷ xs) ys = last_append x xs ys
 
-pub steps_push : (merge : Operator) (first : StoreParts) (states : List StoreParts) (state : StoreParts) → AreSteps merge first states → IsStep merge (last_from first states) state → AreSteps merge first (states ++ state ∷ [])
+pub steps_push : (merge : Operator) (first : StoreParts) (states : List StoreParts) (state : StoreParts) → CallsLead merge first states → CallLeads merge (last_from first states) state → CallsLead merge first (states ++ state ∷ [])
 steps_push merge first [] state h s = (s, tt)
 steps_push merge first (x ∷ states) state h s = (h.0, steps_push merge x states state h.1 s)
 
-pub steps_drop : (merge : Operator) (first : StoreParts) (xs ys : List StoreParts) → AreSteps merge first (xs ++ ys) → AreSteps merge (last_from first xs) ys
+pub steps_drop : (merge : Operator) (first : StoreParts) (xs ys : List StoreParts) → CallsLead merge first (xs ++ ys) → CallsLead merge (last_from first xs) ys
 steps_drop merge first [] ys h = h
 steps_drop merge first (x ∷ xs) ys h = steps_drop merge x xs ys h.1
 
-pub steps_front : (merge : Operator) (first : StoreParts) (xs ys : List StoreParts) → AreSteps merge first (xs ++ ys) → AreSteps merge first xs
+pub steps_front : (merge : Operator) (first : StoreParts) (xs ys : List StoreParts) → CallsLead merge first (xs ++ ys) → CallsLead merge first xs
 steps_front merge first [] ys h = tt
 steps_front merge first (x ∷ xs) ys h = (h.0, steps_front merge x xs ys h.1)
 
@@ -57,12 +57,12 @@ may_strike event (Some fault) = by (is_get_or_put event) (fault.k == 1)
     by true false = tt
     by false c = tt
 
-pub step_keeps : (merge : Operator) → IsLawful merge → (old new : StoreParts) → Keeps merge old.world → IsStep merge old new → Keeps merge new.world
+pub step_keeps : (merge : Operator) → IsLawful merge → (old new : StoreParts) → Keeps merge old.world → CallLeads merge old new → Keeps merge new.world
 step_keeps merge lawful old new keeps step =
     subst (Keeps merge) (sym step.leaves)
     (calls_keep merge lawful step.exchange new.line (party_of new.party) (strike_by (event_of step.exchange old.world.store) old.waits) old.world keeps step.lawful (may_strike (event_of step.exchange old.world.store) old.waits))
 
-pub step_comes : (merge : Operator) (old new : StoreParts) → IsStep merge old new → ComesAfter old.world new.world
+pub step_comes : (merge : Operator) (old new : StoreParts) → CallLeads merge old new → ComesAfter old.world new.world
 step_comes merge old new step =
     subst (ComesAfter old.world) (sym step.leaves) (comes_by new.line (party_of new.party) step.exchange (strike_by (event_of step.exchange old.world.store) old.waits) old.world)
 
@@ -82,7 +82,7 @@ faults_rise None old new e = omega arith
 faults_rise (Some stands) old new e = omega arith
 
 -- A call is one entry.
-step_longer : (merge : Operator) (old new : StoreParts) → IsStep merge old new → length_of new ≡ length_of old + 1
+step_longer : (merge : Operator) (old new : StoreParts) → CallLeads merge old new → length_of new ≡ length_of old + 1
 step_longer merge old new step =
     let x = step.exchange in
     let store = old.world.store in
@@ -96,16 +96,16 @@ step_longer merge old new step =
 -- ---- several calls
 
 -- Calls are as many entries.
-pub chain_longer : (merge : Operator) (first : StoreParts) (states : List StoreParts) → AreSteps merge first states → length_of (last_from first states) ≡ length_of first + length states
+pub chain_longer : (merge : Operator) (first : StoreParts) (states : List StoreParts) → CallsLead merge first states → length_of (last_from first states) ≡ length_of first + length states
 chain_longer merge first [] steps = omega arith
 chain_longer merge first (s ∷ states) steps = let a = step_longer merge first s steps.0 in let b = chain_longer merge s states steps.1 in omega arith
 
-pub chain_comes : (merge : Operator) (first : StoreParts) (states : List StoreParts) → AreSteps merge first states → ComesAfter first.world (last_from first states).world
+pub chain_comes : (merge : Operator) (first : StoreParts) (states : List StoreParts) → CallsLead merge first states → ComesAfter first.world (last_from first states).world
 chain_comes merge first [] steps = comes_itself first.world
 chain_comes merge first (s ∷ states) steps = comes_then first.world s.world (last_from s states).world (step_comes merge first s steps.0) (chain_comes merge s states steps.1)
 
 -- Records that keep their version stay whole.
-pub chain_whole : (merge : Operator) (first : StoreParts) (states : List StoreParts) → AreSteps merge first states
+pub chain_whole : (merge : Operator) (first : StoreParts) (states : List StoreParts) → CallsLead merge first states
     → records_version first.world.store.records ≡ records_version (last_from first states).world.store.records → (last_from first states).processed ≡ first.processed
 chain_whole merge first [] steps same = refl
 chain_whole merge first (s ∷ states) steps same =
@@ -114,7 +114,7 @@ chain_whole merge first (s ∷ states) steps same =
     chain_whole merge s states steps.1 (omega arith) ∙ steps.0.whole (omega arith)
 
 -- Calls of parties other than the caller's are calls of others.
-chain_calls : (who : Caller) (first : StoreParts) (states : List StoreParts) → AreSteps who.merge first states → AllByRecursion (λ state. party_of state.party ≢ who.party) states
+chain_calls : (who : Caller) (first : StoreParts) (states : List StoreParts) → CallsLead who.merge first states → AllByRecursion (λ state. party_of state.party ≢ who.party) states
     → (calls : List RivalCall) × RivalsFrom who calls first.world (last_from first states).world
 chain_calls who first [] steps others = ([], refl)
 chain_calls who first (s ∷ states) steps others =
@@ -125,7 +125,7 @@ chain_calls who first (s ∷ states) steps others =
     let is : IsRival who first.world call = record { other = others.0; lawful = step.lawful; strike = may_strike (event_of step.exchange first.world.store) first.waits; deletes_none = step.deletes_none } in
     (call ∷ rest.0, (is, subst (λ (w : World). RivalsFrom who rest.0 w (last_from s states).world) step.leaves rest.1))
 
-pub chain_rivals : (who : Caller) (first : StoreParts) (states : List StoreParts) → who.alone ≡ false → AreSteps who.merge first states → AllByRecursion (λ state. party_of state.party ≢ who.party) states
+pub chain_rivals : (who : Caller) (first : StoreParts) (states : List StoreParts) → who.alone ≡ false → CallsLead who.merge first states → AllByRecursion (λ state. party_of state.party ≢ who.party) states
     → Rivals who first.world (last_from first states).world
 chain_rivals who first states shared steps others =
     let c = chain_calls who first states steps others in

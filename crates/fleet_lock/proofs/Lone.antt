@@ -27,7 +27,7 @@ use Rattle.fleet_store.specs.Strikes.{strike_by, waits_after, faults_after}
 use Rattle.fleet_store.specs.Under.{view_of}
 use Rattle.fleet_lock.specs.Held.{HeldValue, store_of}
 use Rattle.fleet_lock.specs.Calls.{is_made, Alone, Grows, MayAlone, lone_view}
-use Rattle.fleet_lock.specs.Steps.{IsStep, IsHeld}
+use Rattle.fleet_lock.specs.Steps.{CallLeads, IsHeld}
 use Rattle.fleet_lock.proofs.Chains.{last_push, steps_push, step_keeps}
 
 -- ---- which fault strikes
@@ -117,7 +117,7 @@ module _ {A : Type 0} (merge : Operator) (lent : ℕ) (p q : StoreParts) (x : St
   ended_here result called = subst (λ (w : World). Ended (x w.store) w before after (Gives w.store) (Refuses w.store) result) (sym (only_met before.who p.world called.met refl called.rivals)) called.ended
 
   -- A call that was made is a step.
-  pub is_step : (result : Result A SlateDBError) → Called before after x Gives Refuses result → is_made result ≡ true → (HasRoom p.world (x p.world.store) → Lawful merge (party_of p.party) p.world (x p.world.store)) → is_deletion (x p.world.store) ≡ false → IsStep merge p q
+  pub is_step : (result : Result A SlateDBError) → Called before after x Gives Refuses result → is_made result ≡ true → (HasRoom p.world (x p.world.store) → Lawful merge (party_of p.party) p.world (x p.world.store)) → is_deletion (x p.world.store) ≡ false → CallLeads merge p q
   is_step result called made lawful deletes_none =
       let l = made_leaves result made (ended_here result called) in
       let line : q.line ≡ p.line = ap (λ (c : Caller). c.line) called.same.who in
@@ -193,15 +193,15 @@ served {A} merge lent line party h o p q x Gives Refuses result law is acts call
     keeps_p = subst (λ (s : StoreParts). Keeps merge s.world) (sym acts) is.keeps
 
     -- A step from the store that the call met is one from the store after the last call.
-    from_last : IsStep merge p q → IsStep merge (store_of h) q
+    from_last : CallLeads merge p q → CallLeads merge (store_of h) q
     from_last step =
-        let s : IsStep merge (record (store_of h) { history = h.history; line = line; party = party }) q = subst (λ (s : StoreParts). IsStep merge s q) stored step in
+        let s : CallLeads merge (record (store_of h) { history = h.history; line = line; party = party }) q = subst (λ (s : StoreParts). CallLeads merge s q) stored step in
         record { exchange = s.exchange; lawful = s.lawful; deletes_none = s.deletes_none; leaves = s.leaves; waits = s.waits; faults = s.faults; whole = s.whole }
 
     by : (made : Bool) → is_made result ≡ made → Served merge lent line party h p q result
     by true made =
         let step = is_step merge lent p q x Gives Refuses result called made lawful deletes_none in
-        let here : IsStep merge (store_of h) q = from_last step in
+        let here : CallLeads merge (store_of h) q = from_last step in
         let last : store_of (value_after true q h) ≡ q = last_push h.base h.trace q in
         let e : value_after (is_made result) q h ≡ value_after true q h = ap (λ b. value_after b q h) made in
         record {

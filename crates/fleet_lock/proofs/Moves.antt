@@ -15,7 +15,7 @@ use Rattle.fleet_store.specs.Memory.{StoreParts}
 use Rattle.fleet_lock.specs.Held.{HeldValue, last_from, store_of}
 use Rattle.fleet_lock.specs.Names.{name_at}
 use Rattle.fleet_lock.specs.Counts.{total, times, count, once_from, claims_of, commits_of, length_of}
-use Rattle.fleet_lock.specs.Rule.{seen_of, held, HoldsName, Front, Fits, IsFront, IsLong, IsSpent, Stands, NoTurn, HasTurn, Kept, opener, keeps_less, newcomer, sees_less, joined, spent, with_ticket, with_turn, place_of, after_serving, Follows, Draws, Looks, Serves, Tells, HasWhole, IsFoundBy}
+use Rattle.fleet_lock.specs.Rule.{seen_of, name_count, HoldsName, Front, Fits, IsFront, IsLong, IsSpent, Stands, NoTurn, HasTurn, Kept, opener, keeps_less, newcomer, sees_less, joined_view, spent_view, with_ticket, with_turn, place_of, after_serving, Follows, Draws, Looks, Serves, Tells, HasWhole, IsFoundBy}
 use Rattle.fleet_lock.proofs.Fronts.{append_nil, all_then, all_zip, all_both, all_after, front_on, front_between, below, not_below}
 use Rattle.fleet_lock.proofs.Totals.{total_set, total_snoc, total_at, total_two, total_le, total_alone, times-append, each_set, held_split, names_split, held_joined, names_joined, next_place}
 
@@ -84,7 +84,7 @@ spent_of : (last : HeldValue) (passes drawn served : ℕ) (v : Sight) → v.part
 spent_of last passes drawn served v none_left = ⊎_elim (λ (x : (0 < v.parts) × Fits last passes drawn served v). let p = x.0 in absurd (omega arith)) (λ (x : IsSpent v). x)
 
 -- A view without parts holds no name.
-unheld : (v : Sight) (name : ℕ) → IsSpent v → held v name ≡ 0
+unheld : (v : Sight) (name : ℕ) → IsSpent v → name_count v name ≡ 0
 unheld v name x = let a = x.whole in let b = ap (times name) x.received in omega arith
 
 waits_le_parts : (last : HeldValue) (passes drawn served : ℕ) (v : Sight) → Stands last passes drawn served v → count v.waits ≤ v.parts
@@ -134,7 +134,7 @@ draws {S} value passes id v some_part idle no_turn s k deep at fits =
       commits = let t = total_set (λ u. u.commits) s.views id v w at in let p = k.commits in omega arith;
       struck = let t = total_set (λ u. u.struck) s.views id v w at in let p = k.struck in omega arith;
       own = λ p. let t = total_set (λ u. times p u.own) s.views id v w at in let q = k.own p in omega arith;
-      names = λ n. let t = total_set (λ u. held u n) s.views id v w at in let q = k.names n in omega arith;
+      names = λ n. let t = total_set (λ u. name_count u n) s.views id v w at in let q = k.names n in omega arith;
       home = home_set value k.last s.homes s.views id v w at refl k.home;
       each = each_set (λ j u. Stands k.last passes (k.drawn + 1) k.served u) s.views id w (λ j u _ e. later u (k.each j u e)) mine;
       apart = apart_set s.views id w k.apart (λ _ j u _ e waits same. let f = (waiting_live k.last passes k.drawn k.served u waits (k.each j u e)).ticket waits in let b : u.ticket ≡ k.drawn = same in absurd (omega arith));
@@ -161,7 +161,7 @@ has_whole {S} value passes id v s k at e =
       commits = let c = total_alone (λ u. u.commits) s.views id v at one (λ j u e none_left. (gone j u e none_left).commits) in let p = k.commits in omega arith;
       struck = let c = total_alone (λ u. u.struck) s.views id v at one (λ j u e none_left. (gone j u e none_left).struck) in let p = k.struck in omega arith;
       own = λ p. sym (total_alone (λ u. times p u.own) s.views id v at one (λ j u e none_left. ap (times p) (gone j u e none_left).own)) ∙ k.own p;
-      names = λ n. let c = total_alone (λ u. held u n) s.views id v at one (λ j u e none_left. unheld u n (gone j u e none_left)) in let q = k.names n in omega arith;
+      names = λ n. let c = total_alone (λ u. name_count u n) s.views id v at one (λ j u e none_left. unheld u n (gone j u e none_left)) in let q = k.names n in omega arith;
     }
 
 -- Looking at the word of the served tickets keeps the rule, and gives the turn to the view whose ticket it is.
@@ -204,7 +204,7 @@ looks {S} value passes id v waits no_turn s k deep at fits =
       commits = let t = total_set (λ u. u.commits) s.views id v w at in let p = k.commits in omega arith;
       struck = let t = total_set (λ u. u.struck) s.views id v w at in let p = k.struck in omega arith;
       own = λ p. let t = total_set (λ u. times p u.own) s.views id v w at in let q = k.own p in omega arith;
-      names = λ n. let t = total_set (λ u. held u n) s.views id v w at in let q = k.names n in omega arith;
+      names = λ n. let t = total_set (λ u. name_count u n) s.views id v w at in let q = k.names n in omega arith;
       home = inr (ap (λ hs. set hs 0 none) free.1, (id, w, set_here_at s.views id v w at, refl));
       each = each_set (λ j u. Stands k.last passes k.drawn k.served u) s.views id w (λ j u _ e. k.each j u e) (⊎_elim
           (λ (x : (0 < v.parts) × Fits k.last passes k.drawn k.served v). inl (x.0, record { all = here.all; base = here.base; settings = here.settings; seen = whole_front w k.last.trace (ap (λ (h : HeldValue). h.trace) is); long = long_now; other = (here.other.0, other_now); names = here.names; ticket = here.ticket; turn = λ _. (waits, sym mine, ap (λ (h : HeldValue). h.trace) is) }))
@@ -226,11 +226,11 @@ looks {S} value passes id v waits no_turn s k deep at fits =
 -- ---- serving the next
 
 -- What others have seen is still a front after the states of a view that holds their names.
-front_grows : (u v : Sight) (old new more : List StoreParts) → ((n : ℕ) → held u n + held v n ≤ 1) → Front u old → old ++ more ≡ new → AllByRecursion (λ state. HoldsName v (name_at state)) more → Front u new
+front_grows : (u v : Sight) (old new more : List StoreParts) → ((n : ℕ) → name_count u n + name_count v n ≤ 1) → Front u old → old ++ more ≡ new → AllByRecursion (λ state. HoldsName v (name_at state)) more → Front u new
 front_grows u v old new more apart f is mine = record {
   more = f.more ++ more;
   is = sym (append_assoc u.trace f.more more) ∙ (ap (λ xs. xs ++ more) f.is ∙ is);
-  others = all_both (λ state. held u (name_at state) ≡ 0) f.more more f.others (all_then (λ state. HoldsName v (name_at state)) (λ state. held u (name_at state) ≡ 0) more (λ state holds. let a = apart (name_at state) in omega arith) mine);
+  others = all_both (λ state. name_count u (name_at state) ≡ 0) f.more more f.others (all_then (λ state. HoldsName v (name_at state)) (λ state. name_count u (name_at state) ≡ 0) more (λ state holds. let a = apart (name_at state) in omega arith) mine);
 }
 
 -- Giving the value back keeps the rule, and ends the turn.
@@ -249,7 +249,7 @@ serves {S} value passes id v y turns follows s k deep at fits =
     (λ (x : (s.homes ≡ none ∷ []) × HasTurn s.views). x.0)
     k.home in
     let grows : k.last.trace ++ follows.more ≡ h.trace = ap (λ t. t ++ follows.more) (sym mine.2) ∙ follows.is in
-    let apart : (j : ℕ) (u : Sight) → j ≢ id → get_elem? s.views j ≡ some u → (n : ℕ) → held u n + held v n ≤ 1 = λ j u ne e n. let t = total_two (λ a. held a n) s.views id j v u ne at e in let q = k.names n in omega arith in
+    let apart : (j : ℕ) (u : Sight) → j ≢ id → get_elem? s.views j ≡ some u → (n : ℕ) → name_count u n + name_count v n ≤ 1 = λ j u ne e n. let t = total_two (λ a. name_count a n) s.views id j v u ne at e in let q = k.names n in omega arith in
     let alone : (j : ℕ) (u : Sight) → j ≢ id → get_elem? s.views j ≡ some u → u.waits ≡ true → u.ticket ≢ k.served = λ j u ne e waits_u same. ne (k.apart j id u v e at waits_u mine.0 (same ∙ sym mine.1)) in
     let later : (j : ℕ) (u : Sight) → j ≢ id → get_elem? s.views j ≡ some u → Stands h passes k.drawn (k.served + 1) u = λ j u ne e. ⊎_elim
     (λ (x : (0 < u.parts) × Fits k.last passes k.drawn k.served u). let f = x.1 in inl (
@@ -293,7 +293,7 @@ serves {S} value passes id v y turns follows s k deep at fits =
           let e = next_place (length_of v.base) v.trace h.trace p (omega arith) (omega arith) in
           let a = ap (λ (x : StoreParts × List StoreParts). once_from (length_of x.0) (length x.1) p) (λ i. (here.base i, mine.2 i)) in
           let b = ap (λ (m : StoreParts). once_from (length_of m) (length h.trace) p) follows.base in omega arith;
-      names = λ n. let t = total_set (λ u. held u n) s.views id v w at in let q = k.names n in omega arith;
+      names = λ n. let t = total_set (λ u. name_count u n) s.views id v w at in let q = k.names n in omega arith;
       home = inl (y, ap (λ hs. set hs 0 (some (Some y))) out, refl, each_set (λ j u. u.turn ≡ false) s.views id w (λ j u ne e. false_of u.turn (λ t. let f = (turning_live k.last passes k.drawn k.served u t (k.each j u e)).turn t in alone j u ne e f.0 f.1)) refl);
       each = each_set (λ j u. Stands h passes k.drawn (k.served + 1) u) s.views id w later mine_now;
       apart = apart_set s.views id w k.apart (λ t. absurd (true≢false (sym t)));
@@ -320,8 +320,8 @@ apart_snoc views w idle apart i j u v at_i at_j waits_u waits_v same = ⊎_elim
     (at_snoc views w u i at_i)
 
 -- A view that holds fewer names has seen a front too.
-front_less : (v w : Sight) (states : List StoreParts) → w.trace ≡ v.trace → ((n : ℕ) → held w n ≤ held v n) → Front v states → Front w states
-front_less v w states same less f = record { more = f.more; is = ap (λ t. t ++ f.more) same ∙ f.is; others = all_then (λ state. held v (name_at state) ≡ 0) (λ state. held w (name_at state) ≡ 0) f.more (λ state none_held. let a = less (name_at state) in omega arith) f.others }
+front_less : (v w : Sight) (states : List StoreParts) → w.trace ≡ v.trace → ((n : ℕ) → name_count w n ≤ name_count v n) → Front v states → Front w states
+front_less v w states same less f = record { more = f.more; is = ap (λ t. t ++ f.more) same ∙ f.is; others = all_then (λ state. name_count v (name_at state) ≡ 0) (λ state. name_count w (name_at state) ≡ 0) f.more (λ state none_held. let a = less (name_at state) in omega arith) f.others }
 
 -- Splitting a view keeps the rule, and gives the new view one part and the name.
 pub splits : {S : Type 0} (value : S → HeldValue) (passes id : ℕ) (v : Sight) (name : ℕ) → 1 < v.parts → HoldsName v name → Splits (Kept value passes) id v (keeps_less v name) (newcomer v name)
@@ -331,7 +331,7 @@ splits {S} value passes id v name two holds s k at =
     let first = set s.views id w in
     let views = first ++ n ∷ [] in
     let here = live k.last passes k.drawn k.served v (omega arith) (k.each id v at) in
-    let shared : (m : ℕ) → held w m + held n m ≡ held v m = λ m. held_split v name m here.names holds in
+    let shared : (m : ℕ) → name_count w m + name_count n m ≡ name_count v m = λ m. held_split v name m here.names holds in
     let left : Stands k.last passes k.drawn k.served w = inl (omega arith, record { all = here.all; base = here.base; settings = here.settings; seen = front_less v w k.last.trace refl (λ m. let a = shared m in omega arith) here.seen; long = here.long; other = here.other; names = λ m. names_split v name m here.names holds; ticket = here.ticket; turn = here.turn }) in
     let right : Stands k.last passes k.drawn k.served n = inl (omega arith, record { all = here.all; base = here.base; settings = here.settings; seen = front_less v n k.last.trace refl (λ m. let a = shared m in omega arith) here.seen; long = here.long; other = here.other; names = λ m. omega arith; ticket = λ t. absurd (true≢false (sym t)); turn = λ t. absurd (true≢false (sym t)) }) in
     record {
@@ -347,7 +347,7 @@ splits {S} value passes id v name two holds s k at =
       commits = let t = total_set (λ u. u.commits) s.views id v w at in let a = total_snoc (λ u. u.commits) first n in let p = k.commits in omega arith;
       struck = let t = total_set (λ u. u.struck) s.views id v w at in let a = total_snoc (λ u. u.struck) first n in let p = k.struck in omega arith;
       own = λ p. let t = total_set (λ u. times p u.own) s.views id v w at in let a = total_snoc (λ u. times p u.own) first n in let q = k.own p in omega arith;
-      names = λ m. let t = total_set (λ u. held u m) s.views id v w at in let a = total_snoc (λ u. held u m) first n in let q = k.names m in let b = shared m in omega arith;
+      names = λ m. let t = total_set (λ u. name_count u m) s.views id v w at in let a = total_snoc (λ u. name_count u m) first n in let q = k.names m in let b = shared m in omega arith;
       home = no_turn_snoc value k.last s.homes first n refl (home_set value k.last s.homes s.views id v w at refl k.home);
       each = each_snoc (λ j u. Stands k.last passes k.drawn k.served u) first n (each_set (λ j u. Stands k.last passes k.drawn k.served u) s.views id w (λ j u _ e. k.each j u e) left) (λ j. right);
       apart = apart_snoc first n refl (apart_set s.views id w k.apart (λ t j u ne e waits same. ne (k.apart j id u v e at waits t same)));
@@ -360,23 +360,23 @@ record SeesLonger (last : HeldValue) (both : Sight) (base : StoreParts) (trace :
   pub base_is : base ≡ last.base
   pub more : List StoreParts
   pub is : trace ++ more ≡ last.trace
-  pub others : AllByRecursion (λ state. held both (name_at state) ≡ 0) more
+  pub others : AllByRecursion (λ state. name_count both (name_at state) ≡ 0) more
   pub long : IsLong base trace
   pub other_is : other_base ≡ last.base
   pub front : IsFront other_trace trace
 
 -- Two views that fit are joined to one that has seen the longer of their histories.
-join_sees : (last : HeldValue) (passes drawn served : ℕ) (v w : Sight) → ((n : ℕ) → held (joined v w) n ≡ held v n + held w n) → Fits last passes drawn served v → Fits last passes drawn served w
-    → SeesLonger last (joined v w) (joined v w).base (joined v w).trace (joined v w).other_base (joined v w).other_trace
+join_sees : (last : HeldValue) (passes drawn served : ℕ) (v w : Sight) → ((n : ℕ) → name_count (joined_view v w) n ≡ name_count v n + name_count w n) → Fits last passes drawn served v → Fits last passes drawn served w
+    → SeesLonger last (joined_view v w) (joined_view v w).base (joined_view v w).trace (joined_view v w).other_base (joined_view v w).other_trace
 join_sees last passes drawn served v w together f g = choose (sees_less v w) refl
   where
-    none_after : (more : List StoreParts) → AllByRecursion (λ state. held v (name_at state) ≡ 0) more → AllByRecursion (λ state. held w (name_at state) ≡ 0) more → AllByRecursion (λ state. held (joined v w) (name_at state) ≡ 0) more
-    none_after more a b = all_zip (λ state. held v (name_at state) ≡ 0) (λ state. held w (name_at state) ≡ 0) (λ state. held (joined v w) (name_at state) ≡ 0) more (λ state x y. let t = together (name_at state) in omega arith) a b
+    none_after : (more : List StoreParts) → AllByRecursion (λ state. name_count v (name_at state) ≡ 0) more → AllByRecursion (λ state. name_count w (name_at state) ≡ 0) more → AllByRecursion (λ state. name_count (joined_view v w) (name_at state) ≡ 0) more
+    none_after more a b = all_zip (λ state. name_count v (name_at state) ≡ 0) (λ state. name_count w (name_at state) ≡ 0) (λ state. name_count (joined_view v w) (name_at state) ≡ 0) more (λ state x y. let t = together (name_at state) in omega arith) a b
 
     same_base : length_of v.base ≡ length_of w.base
     same_base = ap length_of (f.base ∙ sym g.base)
 
-    choose : (b : Bool) → sees_less v w ≡ b → SeesLonger last (joined v w) (if b then w.base else v.base) (if b then w.trace else v.trace) (if b then v.base else w.base) (if b then v.trace else w.trace)
+    choose : (b : Bool) → sees_less v w ≡ b → SeesLonger last (joined_view v w) (if b then w.base else v.base) (if b then w.trace else v.trace) (if b then v.base else w.base) (if b then v.trace else w.trace)
     choose true e =
         let lens = below (length_of (seen_of v)) (length_of (seen_of w)) e in
         let lv = f.long in
@@ -387,7 +387,7 @@ join_sees last passes drawn served v w together f g = choose (sees_less v w) ref
           base_is = g.base;
           more = g.seen.more;
           is = g.seen.is;
-          others = none_after g.seen.more (all_after (λ state. held v (name_at state) ≡ 0) v.trace w.trace f.seen.more g.seen.more last.trace f.seen.is g.seen.is le f.seen.others) g.seen.others;
+          others = none_after g.seen.more (all_after (λ state. name_count v (name_at state) ≡ 0) v.trace w.trace f.seen.more g.seen.more last.trace f.seen.is g.seen.is le f.seen.others) g.seen.others;
           long = g.long;
           other_is = f.base;
           front = front_between v.trace w.trace f.seen.more g.seen.more last.trace f.seen.is g.seen.is le;
@@ -402,7 +402,7 @@ join_sees last passes drawn served v w together f g = choose (sees_less v w) ref
           base_is = f.base;
           more = f.seen.more;
           is = f.seen.is;
-          others = none_after f.seen.more f.seen.others (all_after (λ state. held w (name_at state) ≡ 0) w.trace v.trace g.seen.more f.seen.more last.trace g.seen.is f.seen.is le g.seen.others);
+          others = none_after f.seen.more f.seen.others (all_after (λ state. name_count w (name_at state) ≡ 0) w.trace v.trace g.seen.more f.seen.more last.trace g.seen.is f.seen.is le g.seen.others);
           long = f.long;
           other_is = g.base;
           front = front_between w.trace v.trace g.seen.more f.seen.more last.trace g.seen.is f.seen.is le;
@@ -410,15 +410,15 @@ join_sees last passes drawn served v w together f g = choose (sees_less v w) ref
 
 -- Joining two views keeps the rule.
 pub joins : {S : Type 0} (value : S → HeldValue) (passes id other : ℕ) (v w : Sight) → 0 < v.parts → v.waits ≡ false → v.turn ≡ false → 0 < w.parts → w.waits ≡ false → w.turn ≡ false
-    → Joins (Kept value passes) id v other w (joined v w) spent
+    → Joins (Kept value passes) id v other w (joined_view v w) spent_view
 joins {S} value passes id other v w some_part idle no_turn some_other idle_other no_turn_other s k at ne there =
-    let both = joined v w in
-    let gone = spent in
+    let both = joined_view v w in
+    let gone = spent_view in
     let first = set s.views id both in
     let was : get_elem? s.views other ≡ some w = sym (set_else s.views id other both ne) ∙ there in
     let here = live k.last passes k.drawn k.served v some_part (k.each id v at) in
     let from = live k.last passes k.drawn k.served w some_other (k.each other w was) in
-    let together : (n : ℕ) → held both n ≡ held v n + held w n = λ n. held_joined v w n (here.names n) (from.names n) in
+    let together : (n : ℕ) → name_count both n ≡ name_count v n + name_count w n = λ n. held_joined v w n (here.names n) (from.names n) in
     let sees = join_sees k.last passes k.drawn k.served v w together here from in
     let mine : Stands k.last passes k.drawn k.served both = inl (omega arith, record { all = here.all; base = sees.base_is; settings = here.settings; seen = record { more = sees.more; is = sees.is; others = sees.others }; long = sees.long; other = (sees.other_is, sees.front); names = λ n. names_joined v w n (here.names n) (from.names n); ticket = λ t. absurd (not_both v.waits t idle); turn = λ t. absurd (not_both v.turn t no_turn) }) in
     let is_gone : Stands k.last passes k.drawn k.served gone = inr record { parts = refl; claims = refl; commits = refl; struck = refl; own = refl; whole = refl; received = refl; handed = refl; waits = refl; turn = refl } in
@@ -435,7 +435,7 @@ joins {S} value passes id other v w some_part idle no_turn some_other idle_other
       commits = let t = total_set (λ u. u.commits) s.views id v both at in let a = total_set (λ u. u.commits) first other w gone there in let p = k.commits in omega arith;
       struck = let t = total_set (λ u. u.struck) s.views id v both at in let a = total_set (λ u. u.struck) first other w gone there in let p = k.struck in omega arith;
       own = λ p. let t = total_set (λ u. times p u.own) s.views id v both at in let a = total_set (λ u. times p u.own) first other w gone there in let d = times-append p v.own w.own in let q = k.own p in omega arith;
-      names = λ n. let t = total_set (λ u. held u n) s.views id v both at in let a = total_set (λ u. held u n) first other w gone there in let b = together n in let q = k.names n in omega arith;
+      names = λ n. let t = total_set (λ u. name_count u n) s.views id v both at in let a = total_set (λ u. name_count u n) first other w gone there in let b = together n in let q = k.names n in omega arith;
       home = home_set value k.last s.homes first other w gone there (sym no_turn_other) (home_set value k.last s.homes s.views id v both at refl k.home);
       each = each_set (λ j u. Stands k.last passes k.drawn k.served u) first other gone (λ j u _ e. each_set (λ i a. Stands k.last passes k.drawn k.served a) s.views id both (λ i a _ f. k.each i a f) mine j u e) is_gone;
       apart = apart_set first other gone (apart_set s.views id both k.apart (λ t. absurd (not_both v.waits t idle))) (λ t. absurd (true≢false (sym t)));
@@ -498,8 +498,8 @@ pub splits_as : {S : Type 0} (value : S → HeldValue) (passes id : ℕ) (v u : 
 splits_as {S} value passes id v u name is two holds = splits value passes id v name (subst (λ (a : Sight). 1 < a.parts) (sym is) two) (subst (λ (a : Sight). HoldsName a name) (sym is) holds)
 
 pub joins_as : {S : Type 0} (value : S → HeldValue) (passes id other : ℕ) (v w a b : Sight) → v ≡ a → w ≡ b → 0 < a.parts → a.waits ≡ false → a.turn ≡ false → 0 < b.parts → b.waits ≡ false → b.turn ≡ false
-    → Joins (Kept value passes) id v other w (joined v w) spent
-joins_as {S} value passes id other v w a b is_v is_w p q r p' q' r' = subst (λ (x : Sight × Sight). Joins (Kept value passes) id x.0 other x.1 (joined x.0 x.1) spent) (λ i. (sym is_v i, sym is_w i)) (joins value passes id other a b p q r p' q' r')
+    → Joins (Kept value passes) id v other w (joined_view v w) spent_view
+joins_as {S} value passes id other v w a b is_v is_w p q r p' q' r' = subst (λ (x : Sight × Sight). Joins (Kept value passes) id x.0 other x.1 (joined_view x.0 x.1) spent_view) (λ i. (sym is_v i, sym is_w i)) (joins value passes id other a b p q r p' q' r')
 
 pub tells_as : {S : Type 0} (value : S → HeldValue) (passes slots id : ℕ) (me : Me (Option S) Sight) → slots ≡ 1 → me.1 ≡ [] → 0 < me.0.parts → Allows (Kept value passes) slots id me 1 (λ n. n) (Tells (step slots 1 0 0 none) me)
 tells_as {S} value passes slots id me one none_held some_part = subst (λ (x : ℕ × Me (Option S) Sight). Allows (Kept value passes) x.0 id x.1 1 (λ n. n) (Tells (step x.0 1 0 0 none) x.1)) (λ i. (sym one i, (me.0, sym none_held i))) (tells value passes id me.0 some_part)

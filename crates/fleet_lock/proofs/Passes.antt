@@ -7,7 +7,7 @@ use Rattle.fleet_history.specs.declared.party.Party.{Party}
 use Rattle.fleet_lock.specs.Held.{last_from}
 use Rattle.fleet_lock.specs.Names.{name_of}
 use Rattle.fleet_lock.specs.Counts.{count, length_of, times}
-use Rattle.fleet_lock.specs.Rule.{HoldsName, held, joined, keeps_less, seen_of, sees_less}
+use Rattle.fleet_lock.specs.Rule.{HoldsName, joined_view, keeps_less, name_count, seen_of, sees_less}
 use Rattle.fleet_lock.specs.Passes.{IsPass, first_view}
 use Rattle.fleet_lock.specs.declared.sight.Sight.{Sight}
 use Rattle.fleet_lock.proofs.Fronts.{below, not_below}
@@ -19,7 +19,7 @@ use Rattle.fleet_lock.proofs.Totals.{held_joined, held_split, names_joined, name
 still_holds : (v : Sight) (name own : ℕ) → ((n : ℕ) → times n v.handed ≤ v.whole + times n v.received) → HoldsName v name → HoldsName v own → name ≢ own → HoldsName (keeps_less v name) own
 still_holds v name own names holds mine other = by (name == own) refl (held_split v name own names holds)
   where
-    by : (b : Bool) → (name == own) ≡ b → held (keeps_less v name) own + ((0 + (count b + 0)) - 0) ≡ held v own → HoldsName (keeps_less v name) own
+    by : (b : Bool) → (name == own) ≡ b → name_count (keeps_less v name) own + ((0 + (count b + 0)) - 0) ≡ name_count v own → HoldsName (keeps_less v name) own
     by true e together = absurd (other (eqb-true name own e))
     by false e together = omega arith
 
@@ -42,7 +42,7 @@ split_keeps views after parts seen name party is now two holds other =
 -- ---- joining
 
 -- The longer of the two histories is as long as the greater of their lengths.
-max_seen : (v w : Sight) (m n : ℕ) → m ≡ length_of (seen_of v) → n ≡ length_of (seen_of w) → max m n ≡ length_of (seen_of (joined v w))
+max_seen : (v w : Sight) (m n : ℕ) → m ≡ length_of (seen_of v) → n ≡ length_of (seen_of w) → max m n ≡ length_of (seen_of (joined_view v w))
 max_seen v w m n a b = by (sees_less v w) refl
   where
     by : (less : Bool) → sees_less v w ≡ less → max m n ≡ length_of (last_from (if less then w.base else v.base) (if less then w.trace else v.trace))
@@ -51,7 +51,7 @@ max_seen v w m n a b = by (sees_less v w) refl
 
 -- A pass that takes over another one is still a pass, with the parts of both.
 pub join_keeps : (views others after : List Sight) (parts other_parts seen other_seen : ℕ) (party other_party : Party) → IsPass views parts seen party → IsPass others other_parts other_seen other_party
-    → after ≡ joined (first_view views) (first_view others) ∷ [] → IsPass after (parts + other_parts) (max seen other_seen) party
+    → after ≡ joined_view (first_view views) (first_view others) ∷ [] → IsPass after (parts + other_parts) (max seen other_seen) party
 join_keeps views others after parts other_parts seen other_seen party other_party is from now =
     let v = first_view views in
     let w = first_view others in
@@ -60,7 +60,7 @@ join_keeps views others after parts other_parts seen other_seen party other_part
     let some = is.some_part in
     let own_parts = is.parts_are in
     let from_parts = from.parts_are in
-    let kept : IsPass (joined v w ∷ []) (parts + other_parts) (max seen other_seen) party = record {
+    let kept : IsPass (joined_view v w ∷ []) (parts + other_parts) (max seen other_seen) party = record {
       one = refl;
       idle = is.idle;
       parts_are = omega arith;
@@ -72,7 +72,7 @@ join_keeps views others after parts other_parts seen other_seen party other_part
     subst (λ vs. IsPass vs (parts + other_parts) (max seen other_seen) party) (sym now) kept
 
 -- What a look says of two views that were joined.
-pub same_base : (v w : Sight) → (joined v w).other_base ≡ (joined v w).base → w.base ≡ v.base
+pub same_base : (v w : Sight) → (joined_view v w).other_base ≡ (joined_view v w).base → w.base ≡ v.base
 same_base v w = by (sees_less v w)
   where
     by : (less : Bool) → (if less then v.base else w.base) ≡ (if less then w.base else v.base) → w.base ≡ v.base

@@ -3,7 +3,7 @@ use Rattle.std.proofs.Common.{◌≡◌, ℕ, ◌+◌, ◌-◌, List, [], ◌∷
 use Rattle.step_model.specs.Rivals.{Caller}
 use Rattle.atomic_table.specs.Seated.{TableId}
 use Rattle.fleet_lock.specs.Counts.{times}
-use Rattle.fleet_lock.specs.Passes.{CallersKeepPasses, counted, names_in, table_numbers}
+use Rattle.fleet_lock.specs.Passes.{CallersKeepPasses, names_in, table_numbers, with_length}
 
 -- Equal lists whose fronts have one length have equal fronts and equal rests.
 cut : (xs ys us vs : List ℕ) → length xs ≡ length us → xs ++ ys ≡ us ++ vs → (xs ≡ us) × (ys ≡ vs)
@@ -15,7 +15,7 @@ cut (x ∷ xs) ys (u ∷ us) vs l e =
     let head : x ≡ u = cc e in
     ((λ i. head i ∷ rest.0 i), rest.1)
 
-cut_counted : (xs ys us vs : List ℕ) → counted xs ++ ys ≡ counted us ++ vs → (xs ≡ us) × (ys ≡ vs)
+cut_counted : (xs ys us vs : List ℕ) → with_length xs ++ ys ≡ with_length us ++ vs → (xs ≡ us) × (ys ≡ vs)
 cut_counted xs ys us vs e = cut xs ys us vs (cc e) (cc e)
 
 same_table : (a b : TableId) → table_numbers a ≡ table_numbers b → a ≡ b
@@ -34,10 +34,10 @@ pub callers_keep_passes : CallersKeepPasses
 callers_keep_passes folds lent old new same =
     let v = old.sight in
     let w = new.sight in
-    let place : counted (table_numbers new.table) ++ (counted w.settings ++ names_in w) ≡ counted (table_numbers old.table) ++ (counted v.settings ++ names_in v) = same.place in
-    let table = cut_counted (table_numbers new.table) (counted w.settings ++ names_in w) (table_numbers old.table) (counted v.settings ++ names_in v) place in
+    let place : with_length (table_numbers new.table) ++ (with_length w.settings ++ names_in w) ≡ with_length (table_numbers old.table) ++ (with_length v.settings ++ names_in v) = same.place in
+    let table = cut_counted (table_numbers new.table) (with_length w.settings ++ names_in w) (table_numbers old.table) (with_length v.settings ++ names_in v) place in
     let settings = cut_counted w.settings (names_in w) v.settings (names_in v) table.1 in
-    let received = cut_counted w.received (counted w.handed ++ (w.all ∷ w.parts ∷ w.whole ∷ [])) v.received (counted v.handed ++ (v.all ∷ v.parts ∷ v.whole ∷ [])) settings.1 in
+    let received = cut_counted w.received (with_length w.handed ++ (w.all ∷ w.parts ∷ w.whole ∷ [])) v.received (with_length v.handed ++ (v.all ∷ v.parts ∷ v.whole ∷ [])) settings.1 in
     let handed = cut_counted w.handed (w.all ∷ w.parts ∷ w.whole ∷ []) v.handed (v.all ∷ v.parts ∷ v.whole ∷ []) received.1 in
     let whole : w.whole ≡ v.whole = cc handed.1 in
     record {

@@ -31,10 +31,10 @@ use Rattle.fleet_store.specs.Memory.{StoreParts}
 use Rattle.fleet_lock.specs.Held.{HeldValue, last_from, store_of}
 use Rattle.fleet_lock.specs.Names.{name_of, name_at}
 use Rattle.fleet_lock.specs.Counts.{claims_of, commits_of, length_of, times}
-use Rattle.fleet_lock.specs.Rule.{seen_of, held, HoldsName, Front, IsLong, Follows, place_of, with_ticket, with_turn, after_serving}
+use Rattle.fleet_lock.specs.Rule.{seen_of, name_count, HoldsName, Front, IsLong, Follows, place_of, with_ticket, with_turn, after_serving}
 use Rattle.fleet_lock.specs.Passes.{PassValue, IsPass, pass_view}
 use Rattle.fleet_lock.specs.Calls.{Alone, CallStands, Grows, GrowsBy, Finds, StandsAfter, StandsNowhere, is_made, lone_view, struck_by}
-use Rattle.fleet_lock.specs.Steps.{IsStep, AreSteps}
+use Rattle.fleet_lock.specs.Steps.{CallLeads, CallsLead}
 use Rattle.fleet_lock.specs.declared.sight.Sight.{Sight}
 use Rattle.fleet_lock.proofs.Fronts.{all_then, append_nil, not_below, below_strictly}
 use Rattle.fleet_lock.proofs.Chains.{last_append, last_push, steps_drop, steps_front, steps_push, chain_longer, step_comes, claims_rise, commits_rise, faults_rise, chain_whole, chain_rivals}
@@ -91,16 +91,16 @@ module _ (folds : List ℕ → Operator) (lent : ℕ) (pass : PassValue) (h : He
   front = finds.found.front
 
   -- The calls since then.
-  since : AreSteps who.merge (seen_of v) front.more
+  since : CallsLead who.merge (seen_of v) front.more
   since = steps_drop who.merge v.base v.trace front.more
-      (subst (λ (x : List ℕ × (StoreParts × List StoreParts)). AreSteps (folds x.0) x.1.0 x.1.1) (λ i. (finds.found.settings i, (finds.found.base i, sym front.is i))) finds.steps)
+      (subst (λ (x : List ℕ × (StoreParts × List StoreParts)). CallsLead (folds x.0) x.1.0 x.1.1) (λ i. (finds.found.settings i, (finds.found.base i, sym front.is i))) finds.steps)
 
   last_is : last_from (seen_of v) front.more ≡ store_of h
   last_is = sym (last_append v.base v.trace front.more) ∙ (λ i. last_from (sym finds.found.base i) (front.is i))
 
   others : AllByRecursion (λ state. party_of state.party ≢ who.party) front.more
-  others = all_then (λ state. held v (name_at state) ≡ 0) (λ state. party_of state.party ≢ who.party) front.more
-      (λ state none_held same. let e : held v (name_at state) ≡ held v (name_of (party_of pass.party)) = ap (λ p. held v (name_of p)) same in absurd (omega arith)) front.others
+  others = all_then (λ state. name_count v (name_at state) ≡ 0) (λ state. party_of state.party ≢ who.party) front.more
+      (λ state none_held same. let e : name_count v (name_at state) ≡ name_count v (name_of (party_of pass.party)) = ap (λ p. name_count v (name_of p)) same in absurd (omega arith)) front.others
 
   pub found_rivals : Rivals who (seen_of v).world (store_of h).world
   found_rivals = subst (λ (s : StoreParts). Rivals who (seen_of v).world s.world) last_is (chain_rivals who (seen_of v) front.more refl since others)
@@ -123,7 +123,7 @@ module _ (folds : List ℕ → Operator) (lent : ℕ) (pass : PassValue) (h : He
       one : (state : StoreParts) × GrowsBy who.merge line party h left state → Stays (store_of left)
       one x =
           let state = x.0 in
-          let step : IsStep who.merge (last_from (seen_of v) front.more) state = subst (λ s. IsStep who.merge s state) (sym last_is) x.1.step in
+          let step : CallLeads who.merge (last_from (seen_of v) front.more) state = subst (λ s. CallLeads who.merge s state) (sym last_is) x.1.step in
           let all : Stays (last_from (seen_of v) (front.more ++ state ∷ [])) = chain_whole who.merge (seen_of v) (front.more ++ state ∷ []) (steps_push who.merge (seen_of v) front.more state since step) in
           let here : store_of left ≡ state = (λ i. last_from (grows.base i) (x.1.trace i)) ∙ last_push h.base h.trace state in
           subst Stays (last_push (seen_of v) front.more state ∙ sym here) all
@@ -139,11 +139,11 @@ module _ (folds : List ℕ → Operator) (lent : ℕ) (pass : PassValue) (h : He
 -- ---- what a pass leaves
 
 -- The history of what a call leaves is as long as there are states.
-long_left : (merge : Operator) (line : ℕ) (party : Party) (made : Bool) (h left : HeldValue) → AreSteps merge h.base h.trace → Grows merge line party made h left → IsLong left.base left.trace
+long_left : (merge : Operator) (line : ℕ) (party : Party) (made : Bool) (h left : HeldValue) → CallsLead merge h.base h.trace → Grows merge line party made h left → IsLong left.base left.trace
 long_left merge line party made h left steps grows = by made refl
   where
     -- At a list of states that calls lead through.
-    at_states : (states : List StoreParts) → left.trace ≡ states → AreSteps merge h.base states → IsLong left.base left.trace
+    at_states : (states : List StoreParts) → left.trace ≡ states → CallsLead merge h.base states → IsLong left.base left.trace
     at_states states e all = subst (λ (y : StoreParts × List StoreParts). IsLong y.0 y.1) (λ i. (sym grows.base i, sym e i)) (chain_longer merge h.base states all)
 
     by : (b : Bool) → made ≡ b → IsLong left.base left.trace
@@ -319,7 +319,7 @@ module _ (folds : List ℕ → Operator) (lent : ℕ) (pass : PassValue) (h : He
     long_seen : length_of (seen_of pass.sight) ≡ length_of pass.sight.base + length pass.sight.trace
     long_seen =
         let more = finds.found.front.more in
-        let steps : AreSteps fold_found h.base (pass.sight.trace ++ more) = subst (AreSteps fold_found h.base) (sym finds.found.front.is) finds.steps in
+        let steps : CallsLead fold_found h.base (pass.sight.trace ++ more) = subst (CallsLead fold_found h.base) (sym finds.found.front.is) finds.steps in
         let a = chain_longer fold_found h.base pass.sight.trace (steps_front fold_found h.base pass.sight.trace more steps) in
         let b = ap length_of finds.found.base in
         let c = ap (λ base. length_of (last_from base pass.sight.trace)) finds.found.base in
@@ -392,7 +392,7 @@ module _ (folds : List ℕ → Operator) (lent : ℕ) (pass : PassValue) (h : He
           seen = g.trace ∙ ap (λ (xs : List StoreParts). xs ++ state ∷ []) (sym finds.found.front.is);
           line = g.line_is;
           party = g.party_is;
-          step = subst (λ (x : List ℕ × StoreParts). IsStep (folds x.0) x.1 state) (λ i. (finds.found.settings i, met_is i)) g.step;
+          step = subst (λ (x : List ℕ × StoreParts). CallLeads (folds x.0) x.1 state) (λ i. (finds.found.settings i, met_is i)) g.step;
           fault = omega arith;
           place = omega arith;
           own = ap (λ xs. pass.sight.own ++ xs) (own_grown state g.trace) ∙ ap (λ (xs : List StoreParts). pass.sight.own ++ (length_of pass.sight.base + length xs) ∷ []) (sym finds.found.front.is);

@@ -9,7 +9,7 @@ use Rattle.atomic_table.proofs.Lists.{at_set}
 use Rattle.fleet_lock.specs.declared.sight.Sight.{Sight}
 use Rattle.fleet_store.specs.Memory.{StoreParts}
 use Rattle.fleet_lock.specs.Counts.{total, times, count, once_from}
-use Rattle.fleet_lock.specs.Rule.{held, place_of, keeps_less, newcomer, joined}
+use Rattle.fleet_lock.specs.Rule.{name_count, place_of, keeps_less, newcomer, joined_view}
 
 pub total_set : (f : Sight → ℕ) (views : List Sight) (i : ℕ) (v w : Sight) → get_elem? views i ≡ some v → total f (set views i w) + f v ≡ total f views + f w
 total_set f [] i v w e = absurd (some-ne-none v (sym e))
@@ -69,24 +69,24 @@ total_alone f (x ∷ xs) (suc i) v e all h =
 -- ---- names
 
 -- A name that is handed on is held by the new view in place of the old one.
-pub held_split : (v : Sight) (name n : ℕ) → ((n : ℕ) → times n v.handed ≤ v.whole + times n v.received) → 0 < held v name → held (keeps_less v name) n + held (newcomer v name) n ≡ held v n
+pub held_split : (v : Sight) (name n : ℕ) → ((n : ℕ) → times n v.handed ≤ v.whole + times n v.received) → 0 < name_count v name → name_count (keeps_less v name) n + name_count (newcomer v name) n ≡ name_count v n
 held_split v name n fits holds = by (name == n) refl (fits n)
   where
     by : (b : Bool) → (name == n) ≡ b → times n v.handed ≤ v.whole + times n v.received
         → ((v.whole + times n v.received) - (count b + times n v.handed)) + ((0 + (count b + 0)) - 0) ≡ (v.whole + times n v.received) - times n v.handed
-    by true e le = let here : 0 < held v n = subst (λ m. 0 < held v m) (eqb-true name n e) holds in omega arith
+    by true e le = let here : 0 < name_count v n = subst (λ m. 0 < name_count v m) (eqb-true name n e) holds in omega arith
     by false e le = omega arith
 
 -- So the old view has handed on no more than it received.
-pub names_split : (v : Sight) (name n : ℕ) → ((n : ℕ) → times n v.handed ≤ v.whole + times n v.received) → 0 < held v name → times n (name ∷ v.handed) ≤ v.whole + times n v.received
+pub names_split : (v : Sight) (name n : ℕ) → ((n : ℕ) → times n v.handed ≤ v.whole + times n v.received) → 0 < name_count v name → times n (name ∷ v.handed) ≤ v.whole + times n v.received
 names_split v name n fits holds = by (name == n) refl (fits n)
   where
     by : (b : Bool) → (name == n) ≡ b → times n v.handed ≤ v.whole + times n v.received → count b + times n v.handed ≤ v.whole + times n v.received
-    by true e le = let here : 0 < held v n = subst (λ m. 0 < held v m) (eqb-true name n e) holds in omega arith
+    by true e le = let here : 0 < name_count v n = subst (λ m. 0 < name_count v m) (eqb-true name n e) holds in omega arith
     by false e le = omega arith
 
 -- Two views that are joined hold their names together.
-pub held_joined : (v w : Sight) (n : ℕ) → times n v.handed ≤ v.whole + times n v.received → times n w.handed ≤ w.whole + times n w.received → held (joined v w) n ≡ held v n + held w n
+pub held_joined : (v w : Sight) (n : ℕ) → times n v.handed ≤ v.whole + times n v.received → times n w.handed ≤ w.whole + times n w.received → name_count (joined_view v w) n ≡ name_count v n + name_count w n
 held_joined v w n a b = let r = times-append n v.received w.received in let h = times-append n v.handed w.handed in omega arith
 
 pub names_joined : (v w : Sight) (n : ℕ) → times n v.handed ≤ v.whole + times n v.received → times n w.handed ≤ w.whole + times n w.received → times n (v.handed ++ w.handed) ≤ (v.whole + w.whole) + times n (v.received ++ w.received)

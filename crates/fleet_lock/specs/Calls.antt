@@ -12,7 +12,7 @@ use Rattle.fleet_lock.specs.Held.{HeldValue, held_store, last_from, store_of}
 use Rattle.fleet_lock.specs.Counts.{claims_of, commits_of, length_of}
 use Rattle.fleet_lock.specs.Passes.{PassValue}
 use Rattle.fleet_lock.specs.Rule.{IsFoundBy}
-use Rattle.fleet_lock.specs.Steps.{IsStep, AreSteps}
+use Rattle.fleet_lock.specs.Steps.{CallLeads, CallsLead}
 use Rattle.fleet_lock.specs.declared.sight.Sight.{Sight}
 
 -- False if the call was not made, since memory ran out.
@@ -31,7 +31,7 @@ pub record GrowsBy (merge : Operator) (line : ℕ) (party : Party) (old new : He
   pub trace : new.trace ≡ old.trace ++ state ∷ []
   pub line_is : state.line ≡ line
   pub party_is : party_of state.party ≡ party_of party
-  pub step : IsStep merge (store_of old) state
+  pub step : CallLeads merge (store_of old) state
 
 -- The value has one state more, which a lawful call of this party left, or is as it was if the call was not made.
 pub record Grows (merge : Operator) (line : ℕ) (party : Party) (made : Bool) (old new : HeldValue) : Type 0 where
@@ -67,22 +67,22 @@ MayAlone merge line party Fits old = (lent : ℕ) → Fits (lone_view merge line
 -- the invariant and the facts that lawful calls keep.
 pub record Finds (folds : List ℕ → Operator) (v : Sight) (h : HeldValue) : Type 0 where
   pub found : IsFoundBy v h
-  pub steps : AreSteps (folds h.settings) h.base h.trace
+  pub steps : CallsLead (folds h.settings) h.base h.trace
   pub keeps : Keeps (folds h.settings) (store_of h).world
 
 -- The place in the history of a call that these calls come before.
 abbrev pub place_after : StoreParts → List StoreParts → ℕ
 place_after base before = length_of base + length before
 
--- The call comes after these calls, and is the last that its pass has then seen. It is a lawful call by the line and the
--- party of the pass, a fault is counted exactly if one struck it, its place is added to the pass's own, and its
+-- The call comes after these calls, and is the last that its pass has then seen. It is a lawful call by the line and
+-- the party of the pass, a fault is counted exactly if one struck it, its place is added to the pass's own, and its
 -- claims and commits to the pass's shares.
 pub record StandsAfter (merge : Operator) (old new : PassValue) (before : List StoreParts) (struck : ℕ)
     (state : StoreParts) : Type 0 where
   pub seen : new.sight.trace ≡ before ++ state ∷ []
   pub line : state.line ≡ old.line
   pub party : party_of state.party ≡ party_of old.party
-  pub step : IsStep merge (last_from old.sight.base before) state
+  pub step : CallLeads merge (last_from old.sight.base before) state
   pub fault : state.faults ≡ (last_from old.sight.base before).faults + struck
   pub place : length_of state ≡ place_after old.sight.base before + 1
   pub own : new.sight.own ≡ old.sight.own ++ place_after old.sight.base before ∷ []

@@ -9,7 +9,7 @@ use Rattle.fleet_history.specs.declared.party.Party.TheVariants.{Writer}
 use Rattle.fleet_store.specs.Memory.{StoreParts}
 use Rattle.fleet_lock.specs.Names.{name_of}
 use Rattle.fleet_lock.specs.Counts.{length_of, times}
-use Rattle.fleet_lock.specs.Rule.{HoldsName, held, seen_of, spent}
+use Rattle.fleet_lock.specs.Rule.{HoldsName, name_count, seen_of, spent_view}
 use Rattle.fleet_lock.specs.declared.sight.Sight.{Sight}
 
 -- The store that the pass is of, what it knows and has, and the line and the party of its entries.
@@ -20,7 +20,7 @@ pub record PassValue : Type 0 where
   pub party : Party
 
 abbrev pub first_view : List Sight → Sight
-first_view [] = spent
+first_view [] = spent_view
 first_view (v ∷ vs) = v
 
 -- A view between calls.
@@ -60,8 +60,8 @@ pub record IsFirst (passes : ℕ) (store : StoreParts) (settings : List ℕ) (pa
 -- ---- what a pass shows of the store
 
 -- The numbers of a list, after their number.
-abbrev pub counted : List ℕ → List ℕ
-counted numbers = length numbers ∷ numbers
+abbrev pub with_length : List ℕ → List ℕ
+with_length numbers = length numbers ∷ numbers
 
 -- The numbers that tell which shared store it is.
 abbrev pub table_numbers : TableId → List ℕ
@@ -70,11 +70,11 @@ table_numbers table =
 
 -- The names of a view, and its parts.
 abbrev pub names_in : Sight → List ℕ
-names_in v = counted v.received ++ (counted v.handed ++ (v.all ∷ v.parts ∷ v.whole ∷ []))
+names_in v = with_length v.received ++ (with_length v.handed ++ (v.all ∷ v.parts ∷ v.whole ∷ []))
 
 -- What no call changes: the shared store, the settings of its operator, and the names and the parts of the pass.
 abbrev pub place_in : PassValue → List ℕ
-place_in pass = counted (table_numbers pass.table) ++ (counted pass.sight.settings ++ names_in pass.sight)
+place_in pass = with_length (table_numbers pass.table) ++ (with_length pass.sight.settings ++ names_in pass.sight)
 
 -- What the pass shows of the store. `folds` gives the operator's fold by its settings.
 abbrev pub pass_view : (folds : List ℕ → Operator) → (lent : ℕ) → PassValue → StoreView
@@ -94,7 +94,7 @@ pass_view folds lent pass = record {
 pub record SamePass (old new : PassValue) : Type 0 where
   pub table : new.table ≡ old.table
   pub settings : new.sight.settings ≡ old.sight.settings
-  pub names : (name : ℕ) → held new.sight name ≡ held old.sight name
+  pub names : (name : ℕ) → name_count new.sight name ≡ name_count old.sight name
   pub all : new.sight.all ≡ old.sight.all
   pub parts : new.sight.parts ≡ old.sight.parts
   pub line : new.line ≡ old.line

@@ -15,7 +15,8 @@ use Rattle.fleet_lock.specs.declared.sight.Sight.{Sight}
 
 -- A store that a view without parts is said to have seen. Nothing depends on it.
 abbrev pub no_store : StoreParts
-no_store = record { world = fresh_world; history = []; line = 0; party = Writer; faults = 0; waits = None; processed = [] }
+no_store =
+    record { world = fresh_world; history = []; line = 0; party = Writer; faults = 0; waits = None; processed = [] }
 
 -- ---- a view
 
@@ -24,20 +25,20 @@ abbrev pub seen_of : Sight → StoreParts
 seen_of v = last_from v.base v.trace
 
 -- 1 if the view holds the name, and otherwise 0: it received the name, and did not hand it on.
-abbrev pub held : Sight → ℕ → ℕ
-held v name = (v.whole + times name v.received) - times name v.handed
+abbrev pub name_count : Sight → ℕ → ℕ
+name_count v name = (v.whole + times name v.received) - times name v.handed
 
 abbrev pub HoldsName : Sight → ℕ → Type 0
-HoldsName v name = 0 < held v name
+HoldsName v name = 0 < name_count v name
 
 -- The view has seen a front of these states, and what came after that is of parties whose names it does not hold.
 pub record Front (v : Sight) (states : List StoreParts) : Type 0 where
   pub more : List StoreParts
   pub is : v.trace ++ more ≡ states
-  pub others : AllByRecursion (λ state. held v (name_at state) ≡ 0) more
+  pub others : AllByRecursion (λ state. name_count v (name_at state) ≡ 0) more
 
 -- The first list is a front of the second.
-abbrev pub IsFront : List StoreParts → List StoreParts → Type 0
+abbrev pub IsFront : (front all : List StoreParts) → Type 0
 IsFront front all = (more : List StoreParts) × (front ++ more ≡ all)
 
 -- The history of the last state is as much longer than the first one's as there are states.
@@ -81,9 +82,9 @@ NoTurn views = (i : ℕ) (v : Sight) → get_elem? views i ≡ some v → v.turn
 abbrev pub HasTurn : List Sight → Type 0
 HasTurn views = (i : ℕ) × (v : Sight) × (get_elem? views i ≡ some v) × (v.turn ≡ true)
 
--- The rule. `value` reads what the slot holds. Word 0 counts the tickets that were drawn, word 1 those that were served.
--- The shares of all views are the numbers of the calls since the store was shared, each place and each name is of one
--- view, and the value is at home or out with the view whose turn it is.
+-- The rule. `value` reads what the slot holds. Word 0 counts the tickets that were drawn, word 1 those that were
+-- served. The shares of all views are the numbers of the calls since the store was shared, each place and each name
+-- is of one view, and the value is at home or out with the view whose turn it is.
 pub record Kept {S : Type 0} (value : S → HeldValue) (passes : ℕ) (s : State (Option S) Sight) : Type 0 where
   pub last : HeldValue
   pub drawn : ℕ
@@ -98,7 +99,7 @@ pub record Kept {S : Type 0} (value : S → HeldValue) (passes : ℕ) (s : State
   pub struck : total (λ v. v.struck) s.views + last.base.faults ≡ (store_of last).faults
   pub own : (place : ℕ)
       → total (λ v. times place v.own) s.views ≡ once_from (length_of last.base) (length last.trace) place
-  pub names : (name : ℕ) → total (λ v. held v name) s.views ≡ 1
+  pub names : (name : ℕ) → total (λ v. name_count v name) s.views ≡ 1
   pub home : ((x : S) × (s.homes ≡ some (Some x) ∷ []) × (value x ≡ last) × NoTurn s.views)
       ⊎ ((s.homes ≡ none ∷ []) × HasTurn s.views)
   pub each : (i : ℕ) (v : Sight) → get_elem? s.views i ≡ some v → Stands last passes drawn served v
@@ -150,19 +151,19 @@ newcomer v name = record v {
 }
 
 -- True if the first view has seen less than the second.
-abbrev pub sees_less : Sight → Sight → Bool
+abbrev pub sees_less : (v w : Sight) → Bool
 sees_less v w = nat_lt (length_of (seen_of v)) (length_of (seen_of w))
 
 -- What the one of the two has seen that has seen more, and what the other has seen.
-abbrev pub longer : Sight → Sight → List StoreParts
+abbrev pub longer : (v w : Sight) → List StoreParts
 longer v w = if sees_less v w then w.trace else v.trace
 
-abbrev pub shorter : Sight → Sight → List StoreParts
+abbrev pub shorter : (v w : Sight) → List StoreParts
 shorter v w = if sees_less v w then v.trace else w.trace
 
 -- The view that another one is joined to.
-abbrev pub joined : Sight → Sight → Sight
-joined v w = record v {
+abbrev pub joined_view : (v w : Sight) → Sight
+joined_view v w = record v {
   base = if sees_less v w then w.base else v.base;
   trace = longer v w;
   other_base = if sees_less v w then v.base else w.base;
@@ -178,8 +179,8 @@ joined v w = record v {
 }
 
 -- The view that is given up.
-abbrev pub spent : Sight
-spent = record {
+abbrev pub spent_view : Sight
+spent_view = record {
   base = no_store;
   trace = [];
   other_base = no_store;
@@ -238,8 +239,8 @@ pub record Follows (v : Sight) (h : HeldValue) : Type 0 where
 
 -- ---- what a caller learns of each kind of step
 
-abbrev pub Draws : {S : Type 0} → Step (Option S) → Me (Option S) Sight → ℕ → Me (Option S) Sight
-    → Type 0
+abbrev pub Draws : {S : Type 0} → (s : Step (Option S)) (me : Me (Option S) Sight) (found : ℕ)
+    (now : Me (Option S) Sight) → Type 0
 Draws s me found now = (t : ℕ) × (now ≡ (with_ticket me.0 t, me.1)) × (found ≡ t % 2 ^ 64)
 
 -- The view has all that was since the store was shared.
@@ -263,20 +264,20 @@ GetsTurn {S} value v me = (x : S) × (me ≡ (with_turn v (value x), (0, Some x)
 abbrev pub IsWaiting : {S : Type 0} → Me (Option S) Sight → ℕ → Type 0
 IsWaiting me ticket = (me.1 ≡ []) × (me.0.waits ≡ true) × (me.0.turn ≡ false) × (ticket ≡ me.0.ticket % 2 ^ 64)
 
-abbrev pub Looks : {S : Type 0} → (S → HeldValue) → Step (Option S) → Me (Option S) Sight → ℕ → Me (Option S) Sight
-    → Type 0
+abbrev pub Looks : {S : Type 0} → (value : S → HeldValue) (s : Step (Option S)) (me : Me (Option S) Sight) (found : ℕ)
+    (now : Me (Option S) Sight) → Type 0
 Looks value s me found now =
     ((found ≡ me.0.ticket % 2 ^ 64) × GetsTurn value me.0 now)
     ⊎ ((¬ (found ≡ me.0.ticket % 2 ^ 64)) × (now ≡ me))
 
-abbrev pub Serves : {S : Type 0} → (S → HeldValue) → Step (Option S) → Me (Option S) Sight → ℕ → Me (Option S) Sight
-    → Type 0
+abbrev pub Serves : {S : Type 0} → (value : S → HeldValue) (s : Step (Option S)) (me : Me (Option S) Sight) (found : ℕ)
+    (now : Me (Option S) Sight) → Type 0
 Serves {S} value s me found now =
     (x : S) × (me.1 ≡ (0, Some x) ∷ rest me.1) × (now ≡ (after_serving me.0 (value x), rest me.1))
 
 -- A look with no ticket. What was joined last is of the same store, and of the two histories the shorter is a front of
 -- the longer.
-abbrev pub Tells : {S : Type 0} → Step (Option S) → Me (Option S) Sight → ℕ → Me (Option S) Sight
-    → Type 0
+abbrev pub Tells : {S : Type 0} → (s : Step (Option S)) (me : Me (Option S) Sight) (found : ℕ)
+    (now : Me (Option S) Sight) → Type 0
 Tells s me found now =
     (now ≡ me) × (me.0.parts < 2 ^ 32) × (me.0.other_base ≡ me.0.base) × IsFront me.0.other_trace me.0.trace

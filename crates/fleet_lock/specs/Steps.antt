@@ -10,9 +10,9 @@ use Rattle.fleet_store.specs.Memory.{StoreParts}
 use Rattle.fleet_store.specs.Strikes.{strike_by, waits_after, faults_after}
 use Rattle.fleet_lock.specs.Held.{HeldValue, held_store}
 
--- A lawful call leads from the old to the new. It deletes no table, and the fault that waited strikes it exactly if it is
--- its turn. The new state has the line and the party of the call.
-pub record IsStep (merge : Operator) (old new : StoreParts) : Type 0 where
+-- A lawful call leads from the old to the new. It deletes no table, and the fault that waited strikes it exactly if it
+-- is its turn. The new state has the line and the party of the call.
+pub record CallLeads (merge : Operator) (old new : StoreParts) : Type 0 where
   pub exchange : Exchange
   pub lawful : Lawful merge (party_of new.party) old.world exchange
   pub deletes_none : is_deletion exchange ≡ false
@@ -25,13 +25,13 @@ pub record IsStep (merge : Operator) (old new : StoreParts) : Type 0 where
       → new.processed ≡ old.processed
 
 -- Lawful calls lead from the first state through these.
-abbrev pub AreSteps : Operator → StoreParts → List StoreParts → Type 0
-AreSteps merge first [] = Unit {0}
-AreSteps merge first (state ∷ states) = IsStep merge first state × AreSteps merge state states
+abbrev pub CallsLead : Operator → StoreParts → List StoreParts → Type 0
+CallsLead merge first [] = Unit {0}
+CallsLead merge first (state ∷ states) = CallLeads merge first state × CallsLead merge state states
 
 -- The value is that of a store that meets the invariant and the facts that lawful calls keep. Lawful calls lead to it
 -- from the store that was shared.
 pub record IsHeld (merge : Operator) (store : StoreParts) (h : HeldValue) : Type 0 where
   pub same : store ≡ held_store h
   pub keeps : Keeps merge store.world
-  pub steps : AreSteps merge h.base h.trace
+  pub steps : CallsLead merge h.base h.trace

@@ -5,7 +5,7 @@ ghost use Rattle.std.specs.Vec.{vec_capacity, vec_len};
 ghost use Rattle.step_model.specs.Kept.Keeps.{Keeps};
 ghost use Rattle.fleet_lock.specs.Calls.{is_made};
 ghost use Rattle.fleet_lock.specs.Held.{HeldValue, held_store, store_of};
-ghost use Rattle.fleet_lock.specs.Steps.{AreSteps};
+ghost use Rattle.fleet_lock.specs.Steps.{CallsLead};
 
 use crate::calls;
 use crate::folds::{Folds, Lent};

@@ -9,7 +9,7 @@ ghost use Rattle.fleet_store.specs.Manifests.{jobs_shown};
 ghost use Rattle.fleet_lock.specs.Calls.{Alone, Grows, MayAlone, is_made};
 ghost use Rattle.fleet_lock.specs.Counts.{length_of};
 ghost use Rattle.fleet_lock.specs.Held.{HeldValue, store_of};
-ghost use Rattle.fleet_lock.specs.Steps.{AreSteps};
+ghost use Rattle.fleet_lock.specs.Steps.{CallsLead};
 ghost use Rattle.step_model.specs.Kept.Keeps.{Keeps};
 
 use fleet_book::{Compactions, VersionedCompactions};
@@ -29,7 +29,7 @@ pub trait Holds: Drop {
 
     /// What is known of each value.
     fn known(&self)
-        ensures steps { AreSteps (folds (value self.now).settings)
+        ensures steps { CallsLead (folds (value self.now).settings)
             (value self.now).base (value self.now).trace }
         ensures keeps { Keeps (folds (value self.now).settings) (store_of (value self.now)).world };
 

@@ -9,7 +9,7 @@ ghost use Rattle.fleet_lock.specs.Counts.{length_of};
 ghost use Rattle.fleet_lock.specs.Held.{HeldValue, held_store, store_of};
 ghost use Rattle.fleet_lock.specs.Names.{name_of};
 ghost use Rattle.fleet_lock.specs.Passes.{IsFirst, IsIdle, MayCarry, first_view};
-ghost use Rattle.fleet_lock.specs.Rule.{Follows, GetsTurn, HoldsName, IsFoundBy, IsFront, IsWaiting, after_serving, joined, keeps_less, longer, newcomer, shorter, with_ticket, with_turn};
+ghost use Rattle.fleet_lock.specs.Rule.{Follows, GetsTurn, HoldsName, IsFoundBy, IsFront, IsWaiting, after_serving, joined_view, keeps_less, longer, newcomer, shorter, with_ticket, with_turn};
 
 use crate::folds::{Folds, lend};
 use crate::held::Held;
@@ -102,11 +102,11 @@ impl<N: HandsOn> Split<Sight> for Cut<N> {
 struct Glue;
 
 impl Join<Sight> for Glue {
-    ghost use Rattle.fleet_lock.specs.Rule.{joined, spent};
+    ghost use Rattle.fleet_lock.specs.Rule.{joined_view, spent_view};
 
-    ghost both = { joined };
+    ghost both = { joined_view };
 
-    ghost spent = { spent };
+    ghost spent = { spent_view };
 }
 
 pub(crate) type Place<S> = Seat<Option<S>, Sight>;
@@ -215,7 +215,8 @@ impl<S: Holds> Lock<S> {
     pub fn join(&self, into: &mut Pass, from: Pass)
         requires own { into.old.table ≡ table_of self.now }
         requires other { from.table ≡ table_of self.now }
-        ensures pass { into.new ≡ record into.old { sight = joined into.old.sight from.sight } }
+        ensures pass { into.new
+            ≡ record into.old { sight = joined_view into.old.sight from.sight } }
         ensures base { from.sight.base ≡ into.old.sight.base }
         ensures front { IsFront (shorter into.old.sight from.sight)
             (longer into.old.sight from.sight) }

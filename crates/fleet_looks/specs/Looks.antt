@@ -45,13 +45,13 @@ answer_reply (NotRetained least tick) = not_retained least tick
 answer_reply (Callback message) = reply (codes "callback" ∷ bytes_text message ∷ [])
 
 -- The reply to a read of a key over all rows that were flushed into the segment and not drained.
-abbrev pub read_said : Operator → Store → (segment key : List ℕ) → ℕ → ℤ → List ℕ
+abbrev pub read_said : (merge : Operator) (store : Store) → (segment key : List ℕ) → (seq : ℕ) (now : ℤ) → List ℕ
 read_said merge store segment key seq now =
     if is_not_retained store.manifest seq now then not_retained store.manifest.horizon store.manifest.tick
     else read_reply (flushed_read merge store segment key seq now)
 
 -- The same keys lie in both ranges.
-abbrev pub AreAlike : Range → Range → Type 0
+abbrev pub AreAlike : (one other : Range) → Type 0
 AreAlike one other = (key : List ℕ) → is_in_range one key ≡ is_in_range other key
 
 -- How a page ended, as the model's end.
@@ -71,7 +71,8 @@ scan_answer_reply (scanned.Page page) = scan_reply (page_read page)
 
 -- The reply to a scan of the keys between two keys, over all rows that were flushed into the segment and not
 -- drained.
-abbrev pub scan_said : Operator → Store → (segment from to : List ℕ) → ℕ → ℤ → ℕ → List ℕ
+abbrev pub scan_said : (merge : Operator) (store : Store) → (segment from to : List ℕ) → (seq : ℕ) (now : ℤ) (limit : ℕ)
+    → List ℕ
 scan_said merge store segment from to seq now limit =
     if is_not_retained store.manifest seq now then not_retained store.manifest.horizon store.manifest.tick
     else scan_reply (first_page limit (flushed_scan merge store segment (keys_between from to) seq now))

@@ -48,7 +48,7 @@ records_answer (Some records) = Done records.version
 
 -- The answer to a put. If its version is the stored one, the put is done and raises that version by one.
 -- Otherwise it is in conflict with the stored version.
-abbrev pub put_answer : ℕ → ℕ → Answer
+abbrev pub put_answer : (version there : ℕ) → Answer
 put_answer version there = if version == there then Done (there + 1) else Conflict there
 
 -- The answer to a call that no fault strikes. A get of the manifest or the records answers the stored
@@ -83,13 +83,13 @@ after_exchange ListsTables store = store
 after_exchange (DeletesTable table) store = record store { deleted = store.deleted ++ table ∷ [] }
 
 -- Adds an entry to the end of the history.
-abbrev pub with_entry : ℕ → Party → Event → Answer → Store → Store
+abbrev pub with_entry : (line : ℕ) (party : Party) (event : Event) (answer : Answer) (store : Store) → Store
 with_entry line party event answer store = record store {
   history = store.history ++ record { line = line; party = party; event = event; answer = answer } ∷ [];
 }
 
 -- The store after a call that no fault strikes, with the call's entry in the history.
-abbrev pub after_answered : ℕ → Party → Exchange → Store → Store
+abbrev pub after_answered : (line : ℕ) (party : Party) (x : Exchange) (store : Store) → Store
 after_answered line party x store =
     with_entry line party (event_of x store) (answer_of x store) (after_exchange x store)
 

@@ -7,11 +7,11 @@ use Rattle.row_model.specs.Settings.{Settings}
 use Rattle.row_model.specs.Ranges.{Range}
 
 -- The id with this moment and number: the low 48 bits of the moment, above 80 bits for the number.
-abbrev pub id_of : ℕ → ℕ → ℕ
+abbrev pub id_of : (moment number : ℕ) → ℕ
 id_of moment number = (moment % 2 ^ 48) * 2 ^ 80 + number
 
 -- True if these are the same ids in the same order.
-abbrev pub ids_eq : List ℕ → List ℕ → Bool
+abbrev pub ids_eq : (ids others : List ℕ) → Bool
 ids_eq ids others = bytes_eq ids others
 
 -- The number of an id, which is its low 80 bits. Jobs are numbered from 1.
@@ -23,7 +23,7 @@ abbrev pub drawn_base : ℕ
 drawn_base = 2 ^ 79
 
 -- The id of a table that a job writes, by the moment and the number of its draw, from 1.
-abbrev pub table_id_of : ℕ → ℕ → ℕ
+abbrev pub table_id_of : (moment number : ℕ) → ℕ
 table_id_of moment number = id_of moment (drawn_base + number)
 
 -- The spec of a job: it takes these source nodes of a segment, and makes of them a run with the destination
@@ -164,7 +164,7 @@ is_overdue timeout moment None = true
 is_overdue timeout moment (Some lease) = nat_lt timeout (moment - lease.heartbeat)
 
 -- True if the job is Running and its lease is overdue.
-abbrev pub is_stale : ℕ → ℕ → Job → Bool
+abbrev pub is_stale : (timeout moment : ℕ) (job : Job) → Bool
 is_stale timeout moment job = has_status Running job && is_overdue timeout moment job.lease
 
 -- True if one of these jobs is finished.

@@ -54,5 +54,5 @@ is_lowest_or_above id (source ∷ sources) runs =
     contains (source ∷ sources) id && list_all (λ run. nat_le id run) (source ∷ sources)
 
 -- True if no name is in both lists.
-abbrev pub is_apart : List NodeName → List NodeName → Bool
+abbrev pub is_apart : (xs ys : List NodeName) → Bool
 is_apart xs ys = list_all (λ x. not (names_contain ys x)) xs

@@ -18,7 +18,7 @@ least_seq_of [] = 0
 least_seq_of (r ∷ rows) = least_from r.seq rows
 
 -- True if less than the retention, in milliseconds, has passed since the flush was put.
-abbrev pub is_retained : ℕ → ℕ → Tracked → Bool
+abbrev pub is_retained : (moment retention : ℕ) (flush : Tracked) → Bool
 is_retained moment retention flush = nat_lt moment (flush.moment + retention)
 
 -- The tracked flushes after a new flush: those that are retained, and the new one. Without a retention no

@@ -8,11 +8,13 @@ use Rattle.fleet_model.specs.Nodes.{tree_at, node_rows, flushed_node_rows}
 use Rattle.fleet_model.specs.Store.{Store}
 
 -- The answers of a scan over the rows of all flushes that went into the segment's tree.
-abbrev pub flushed_scan : Operator → Store → List ℕ → Range → ℕ → ℤ → List (List ℕ × Outcome)
+abbrev pub flushed_scan : (merge : Operator) (store : Store) (segment : List ℕ) (range : Range) (seq : ℕ) (now : ℤ)
+    → List (List ℕ × Outcome)
 flushed_scan merge store segment range seq now =
     scanned_pairs merge range seq now (flat_map (flushed_node_rows store.tables) (tree_at segment store.manifest.trees))
 
 -- The answers of a scan over the rows that the nodes of the segment's tree hold.
-abbrev pub stored_scan : Operator → Store → List ℕ → Range → ℕ → ℤ → List (List ℕ × Outcome)
+abbrev pub stored_scan : (merge : Operator) (store : Store) (segment : List ℕ) (range : Range) (seq : ℕ) (now : ℤ)
+    → List (List ℕ × Outcome)
 stored_scan merge store segment range seq now =
     scanned_pairs merge range seq now (flat_map (node_rows store.tables) (tree_at segment store.manifest.trees))

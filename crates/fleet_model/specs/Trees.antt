@@ -25,7 +25,7 @@ abbrev pub put_run : ℕ → Node → Tree → Tree
 put_run id run tree = insert_before {A = Node} (λ run node. is_run_below id node.name) run tree
 
 -- Replaces the sources of a tree by one run with these tables. The run has all flushes of the sources.
-abbrev pub with_run_for : List NodeName → ℕ → List ℕ → Tree → Tree
+abbrev pub with_run_for : (sources : List NodeName) (id : ℕ) (pieces : List ℕ) (tree : Tree) → Tree
 with_run_for sources id pieces tree =
     put_run id
     (record { name = Run id; flushes = flat_map (λ node. node.flushes) (source_nodes sources tree); pieces = pieces })
@@ -84,7 +84,7 @@ watermark_after sources (node ∷ tree) mark =
 
 -- Changes the tree and the watermark of the segment with this prefix, and leaves any other segment as it
 -- is.
-abbrev pub on_segment : List ℕ → List NodeName → (Tree → Tree) → Segment → Segment
+abbrev pub on_segment : (prefix : List ℕ) (sources : List NodeName) (change : Tree → Tree) (s : Segment) → Segment
 on_segment prefix sources change s =
     if bytes_eq prefix s.prefix then record s {
       tree = change s.tree;
@@ -93,7 +93,7 @@ on_segment prefix sources change s =
     else s
 
 -- The trees after a step, which changes only the tree of its job's segment.
-abbrev pub stepped_in : Tables → Step → JobSpec → List ℕ → Trees → Trees
+abbrev pub stepped_in : (tables : Tables) (step : Step) (spec : JobSpec) (outputs : List ℕ) (trees : Trees) → Trees
 stepped_in tables step spec outputs trees =
     map (on_segment spec.segment spec.sources (stepped_tree tables step spec outputs)) trees
 

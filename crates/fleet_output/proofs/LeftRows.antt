@@ -29,7 +29,7 @@ use Rattle.fleet_exec.specs.Ranges.{AreSources, Sources, from_cursor, made_of, r
 use Rattle.fleet_exec.specs.declared.range_job.RangeJob.{RangeJob}
 use Rattle.fleet_store.specs.Handles.{IsDescribed}
 use Rattle.fleet_output.specs.Gets.{GotAll, GotEach, GotUntil, sources_at}
-use Rattle.fleet_output.specs.Jobs.{cursor_of, resumed}
+use Rattle.fleet_output.specs.Jobs.{cursor_of, resumed_range}
 use Rattle.fleet_output.specs.Left.{AreWhole, CanFinish, GivesLeft, ReadsLeft, RefusesLeft, tables_for}
 use Rattle.fleet_output.specs.Next.{CanResume, left_for, read_for}
 use Rattle.fleet_output.proofs.Apart.{all_sources}
@@ -46,7 +46,7 @@ module _ (merge : Operator) (store : Store) (settings : Settings) (tables : List
   Can parts = AllByRecursion (CanResume merge store settings tables) parts
 
   abbrev job_of : Part → RangeJob
-  job_of part = resumed settings part
+  job_of part = resumed_range settings part
 
   -- What is made of all sources is what is left of a range.
   made_left : (part : Part) → CanResume merge store settings tables part → made_of merge sources (job_of part) ≡ left_for merge stored settings tables part
@@ -161,11 +161,11 @@ module _ (merge : Operator) (settings : Settings) (tables : List SsTableHandle) 
         pub are_sources : AreSources got_sources
         are_sources = subst AreSources (sym sources_so) (sources_left merge old.world.store settings tables parts can)
 
-        module _ (jobs : List RangeJob) (resume : jobs ≡ map (resumed settings) parts) where
+        module _ (jobs : List RangeJob) (resume : jobs ≡ map (resumed_range settings) parts) where
           -- The tables that are made of them are those of what is left.
           pub given_left : (ranges : List (List (List RowEntry))) → AreFinished merge got_sources size jobs (map (map rows_of) ranges) → GivesLeft merge settings tables parts size old new ranges
           given_left ranges finished =
-              let made = subst (λ s. AreFinished merge s size (map (resumed settings) parts) (map (map rows_of) ranges)) sources_so (subst (λ js. AreFinished merge got_sources size js (map (map rows_of) ranges)) resume finished) in
+              let made = subst (λ s. AreFinished merge s size (map (resumed_range settings) parts) (map (map rows_of) ranges)) sources_so (subst (λ js. AreFinished merge got_sources size js (map (map rows_of) ranges)) resume finished) in
               record {
                 got = each_got;
                 cut = made.cut ∙ cut_left merge old.world.store settings tables size parts can.each;
@@ -178,5 +178,5 @@ module _ (merge : Operator) (settings : Settings) (tables : List SsTableHandle) 
             got = each_got;
             refused = λ other.
                 refuses_left merge old.world.store settings tables e parts can.each
-                (subst (λ s. RefusesFirst merge s (map (resumed settings) parts) e) sources_so (subst (λ js. RefusesFirst merge got_sources js e) resume (refuses other)));
+                (subst (λ s. RefusesFirst merge s (map (resumed_range settings) parts) e) sources_so (subst (λ js. RefusesFirst merge got_sources js e) resume (refuses other)));
           })

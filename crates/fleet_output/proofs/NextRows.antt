@@ -14,7 +14,7 @@ use Rattle.fleet_exec.specs.Ranges.{AreSources, Sources, made_of}
 use Rattle.fleet_exec.specs.Tables.{GivesTable, RefusesJobTable}
 use Rattle.fleet_exec.specs.declared.range_job.RangeJob.{RangeJob}
 use Rattle.fleet_output.specs.Gets.{GotAll, GotEach, GotUntil, ids_in, sources_at}
-use Rattle.fleet_output.specs.Jobs.{resumed}
+use Rattle.fleet_output.specs.Jobs.{resumed_range}
 use Rattle.fleet_output.specs.Next.{CanResume, GivesNext, ReadsNext}
 use Rattle.fleet_output.proofs.Resumed.{gives_left, ids_held, refuses_left, sources_are}
 
@@ -55,14 +55,14 @@ module _ (merge : Operator) (settings : Settings) (tables : List SsTableHandle) 
         pub got_sources : AreSources sources
         got_sources = subst AreSources sources_so (sources_are merge old.world.store settings tables part can)
 
-        module _ (job : RangeJob) (resumes : job ≡ resumed settings part) where
+        module _ (job : RangeJob) (resumes : job ≡ resumed_range settings part) where
           -- The rows that are made of them are the next ones.
           pub next_given : (rows : Option (List RowEntry)) → GivesTable (made_of merge sources job) most rows → GivesNext merge settings tables part most old new rows
           next_given rows gives = record {
             got = each_got;
             next =
                 gives_left merge old.world.store settings tables part can most rows
-                (subst (λ sources. GivesTable (made_of merge sources (resumed settings part)) most rows) (sym sources_so) (subst (λ job. GivesTable (made_of merge sources job) most rows) resumes gives));
+                (subst (λ sources. GivesTable (made_of merge sources (resumed_range settings part)) most rows) (sym sources_so) (subst (λ job. GivesTable (made_of merge sources job) most rows) resumes gives));
           }
 
           -- A fold refuses in them.
@@ -71,5 +71,5 @@ module _ (merge : Operator) (settings : Settings) (tables : List SsTableHandle) 
             got = each_got;
             refused =
                 refuses_left merge old.world.store settings tables part can most e
-                (subst (λ sources. RefusesJobTable merge sources (resumed settings part) most e) (sym sources_so) (subst (λ job. RefusesJobTable merge sources job most e) resumes refuses));
+                (subst (λ sources. RefusesJobTable merge sources (resumed_range settings part) most e) (sym sources_so) (subst (λ job. RefusesJobTable merge sources job most e) resumes refuses));
           })

@@ -40,7 +40,7 @@ use Rattle.fleet_exec.specs.Ranges.{AreSources, Sources, from_cursor, made_of, r
 use Rattle.fleet_exec.specs.Tables.{GivesTable, RefusesJobTable, RefusesTable}
 use Rattle.fleet_store.specs.Handles.{IsDescribed}
 use Rattle.fleet_output.specs.Gets.{ids_in, sources_at}
-use Rattle.fleet_output.specs.Jobs.{cursor_of, place_of, resumed}
+use Rattle.fleet_output.specs.Jobs.{cursor_of, place_of, resumed_range}
 use Rattle.fleet_output.specs.Next.{CanResume, RefusesNext, left_for, read_for}
 use Rattle.fleet_output.proofs.Apart.{are_sources}
 use Rattle.fleet_output.proofs.GotTables.{ids_are}
@@ -215,24 +215,24 @@ module _ (merge : Operator) (store : Store) (settings : Settings) (tables : List
       (some_of (λ id. IsTrue (is_held store id)) (meets stored range) (table_ids tables) (all_true_front (is_held store) (table_ids tables) can.held)))
 
   -- They make what is left.
-  made_is : made_of merge sources (resumed settings part) ≡ left_for merge stored settings tables part
+  made_is : made_of merge sources (resumed_range settings part) ≡ left_for merge stored settings tables part
   made_is =
       ap (made_of_sources merge (settings_of settings) range (cursor_of part.output_ssts)) (source_lists stored range (ids_in range tables) ∙ ap (map (table_rows stored)) kept_are)
       ∙ made_kept stored range merge (settings_of settings) (cursor_of part.output_ssts) (table_ids tables) (all_miss (table_ids tables) (are_tables tables can.described))
       ∙ ap (λ cursor. made_of_sources merge (settings_of settings) range cursor (map (table_rows stored) (table_ids tables))) (cursor_is stored can.sound part.output_ssts can.noted)
       ∙ outputs_make_what_is_left merge stored (settings_of settings) (table_ids tables) range (table_ids part.output_ssts) can.ordered can.first
 
-  read_is : rows_read sources (resumed settings part) ≡ read_for stored tables part
+  read_is : rows_read sources (resumed_range settings part) ≡ read_for stored tables part
   read_is =
       ap (from_cursor (cursor_of part.output_ssts))
       (ap (λ ids. merged_rows (ranged_sources range (sources_at stored ids))) kept_are ∙ read_kept stored range (table_ids tables) (all_miss (table_ids tables) (are_tables tables can.described)))
 
   -- What is made of them is what is left of the range.
-  pub gives_left : (most : ℕ) (rows : Option (List RowEntry)) → GivesTable (made_of merge sources (resumed settings part)) most rows → GivesTable (left_for merge stored settings tables part) most rows
+  pub gives_left : (most : ℕ) (rows : Option (List RowEntry)) → GivesTable (made_of merge sources (resumed_range settings part)) most rows → GivesTable (left_for merge stored settings tables part) most rows
   gives_left most rows gives = subst (λ (made : JobRows). GivesTable made most rows) made_is gives
 
   -- A refusal is one of what is left.
-  pub refuses_left : (most : ℕ) (e : SlateDBError) → RefusesJobTable merge sources (resumed settings part) most e → e ≢ Memory → RefusesNext merge stored settings tables part most e
+  pub refuses_left : (most : ℕ) (e : SlateDBError) → RefusesJobTable merge sources (resumed_range settings part) most e → e ≢ Memory → RefusesNext merge stored settings tables part most e
   refuses_left most e refuses other =
       subst (λ (made : JobRows). RefusesTable merge (settings_of settings) (cursor_of part.output_ssts) (read_for stored tables part) made most e) made_is
-      (subst (λ rows. RefusesTable merge (settings_of settings) (cursor_of part.output_ssts) rows (made_of merge sources (resumed settings part)) most e) read_is (refuses other))
+      (subst (λ rows. RefusesTable merge (settings_of settings) (cursor_of part.output_ssts) rows (made_of merge sources (resumed_range settings part)) most e) read_is (refuses other))

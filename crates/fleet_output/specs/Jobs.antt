@@ -15,5 +15,5 @@ abbrev pub cursor_of : List SsTableHandle → Option Cursor
 cursor_of tables = option_map place_of (slice_get tables (length tables - 1))
 
 -- The range is resumed after the tables that are noted for it.
-abbrev pub resumed : Settings → Part → RangeJob
-resumed settings part = record { range = part.range; cursor = cursor_of part.output_ssts; settings = settings }
+abbrev pub resumed_range : Settings → Part → RangeJob
+resumed_range settings part = record { range = part.range; cursor = cursor_of part.output_ssts; settings = settings }

@@ -23,13 +23,14 @@ use Rattle.fleet_output.specs.Gets.{GotEach, GotUntil}
 use Rattle.fleet_output.specs.Next.{CanResume, left_for, read_for}
 
 -- Of a store with these tables, what is left of each range under these settings, cut into tables at `size`.
-abbrev pub tables_for : Operator → Tables → Settings → List SsTableHandle → (size : ℕ) → List Part
-    → List (List (List Row))
+abbrev pub tables_for : (merge : Operator) (stored : Tables) (settings : Settings) (tables : List SsTableHandle)
+    → (size : ℕ) → (parts : List Part) → List (List (List Row))
 tables_for merge stored settings tables size parts =
     map (λ part. cut_tables size (left_for merge stored settings tables part).rows) parts
 
 -- No fold refuses in what is left of these ranges.
-abbrev pub AreWhole : Operator → Tables → Settings → List SsTableHandle → List Part → Type 0
+abbrev pub AreWhole : (merge : Operator) (stored : Tables) (settings : Settings) (tables : List SsTableHandle)
+    (parts : List Part) → Type 0
 AreWhole merge stored settings tables parts =
     AllByRecursion (λ part. (left_for merge stored settings tables part).whole ≡ true) parts
 

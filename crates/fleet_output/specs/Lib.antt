@@ -1,8 +1,8 @@
-pub mod Finishes
 pub mod Gets
 pub mod Jobs
-pub mod Left
 pub mod Next
+pub mod Left
 pub mod Puts
 pub mod RangePuts
+pub mod Finishes
 pub mod Writes

@@ -27,7 +27,8 @@ use Rattle.fleet_output.specs.Gets.{GotEach, GotUntil, ids_in}
 use Rattle.fleet_output.specs.Jobs.{cursor_of}
 
 -- Of a store with these tables, what is left of the range under these settings.
-abbrev pub left_for : Operator → Tables → Settings → List SsTableHandle → Part → JobRows
+abbrev pub left_for : (merge : Operator) (stored : Tables) (settings : Settings) (tables : List SsTableHandle)
+    (part : Part) → JobRows
 left_for merge stored settings tables part =
     rows_left merge stored (settings_of settings) (table_ids tables) (noted_range part)
 
@@ -51,8 +52,8 @@ pub record CanResume (merge : Operator) (store : Store) (settings : Settings) (t
 
 -- A fold refuses in what is left, and `e` is what the operator answered. Fewer than `most` rows come before it, as
 -- `RefusesTable` says.
-abbrev pub RefusesNext : Operator → Tables → Settings → List SsTableHandle → Part → (most : ℕ) → SlateDBError
-    → Type 0
+abbrev pub RefusesNext : (merge : Operator) (stored : Tables) (settings : Settings) (tables : List SsTableHandle)
+    (part : Part) → (most : ℕ) → (e : SlateDBError) → Type 0
 RefusesNext merge stored settings tables part most e =
     RefusesTable merge (settings_of settings) (cursor_of part.output_ssts) (read_for stored tables part)
     (left_for merge stored settings tables part) most e

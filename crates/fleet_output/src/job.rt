@@ -1,7 +1,7 @@
 //! Ranges that are resumed after the tables that were noted for them.
 
 ghost use Rattle.std.specs.Prelude.{◌≡◌, IfOk, IsOkUnless, map};
-ghost use Rattle.fleet_output.specs.Jobs.{cursor_of, resumed};
+ghost use Rattle.fleet_output.specs.Jobs.{cursor_of, resumed_range};
 
 use bytes::Bytes;
 use fleet_exec::RangeJob;
@@ -24,7 +24,7 @@ fn cursor_of(tables: &[SsTableHandle]) -> Result<Option<(Bytes, u64)>, SlateDBEr
 /// The range, resumed under these settings after the last row of the last table that is noted for
 /// it.
 pub fn range_job(settings: Settings, part: &Subcompaction) -> Result<RangeJob, SlateDBError>
-    ensures job { IfOk result (λ job. job ≡ resumed settings part.now) }
+    ensures job { IfOk result (λ job. job ≡ resumed_range settings part.now) }
     ensures memory { IsOkUnless result SlateDBError.Memory }
 {
     Ok(RangeJob {
@@ -41,7 +41,7 @@ pub fn range_jobs(
     settings: Settings,
     parts: &[Subcompaction],
 ) -> Result<Vec<RangeJob>, SlateDBError>
-    ensures jobs { IfOk result (λ jobs. jobs.items ≡ map (resumed settings) parts.now) }
+    ensures jobs { IfOk result (λ jobs. jobs.items ≡ map (resumed_range settings) parts.now) }
     ensures memory { IsOkUnless result SlateDBError.Memory }
 {
     let mut jobs = Vec::with_capacity(alloc, parts.len())?;

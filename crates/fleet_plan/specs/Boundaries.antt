@@ -15,7 +15,7 @@ HoldEveryKeyOnce ranges = (key : List ℕ) → length (filter (λ range. is_in_r
 
 -- The keys at which the ranges after the first one begin. There are none where one range has all keys: if at
 -- most one range is asked for, if the target is 0, or if all bytes do not exceed the target.
-abbrev pub boundary_keys : List Anchor → ℕ → ℕ → List (List ℕ)
+abbrev pub boundary_keys : (anchors : List Anchor) (max_ranges min_range_bytes : ℕ) → List (List ℕ)
 boundary_keys anchors max_ranges min_range_bytes =
     let total = saturated_sum (sum_by (λ a. a.bytes) anchors) in
     let target = max (total / max_ranges) min_range_bytes in

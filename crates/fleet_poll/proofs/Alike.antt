@@ -26,8 +26,8 @@ use Rattle.fleet_sched.specs.Views.{handles_in, tree_handles, view_of}
 use Rattle.fleet_gates.specs.Shown.{accepted_on}
 use Rattle.fleet_poll.specs.Made.{own_core}
 use Rattle.fleet_poll.specs.Polls.{poll_of}
-use Rattle.fleet_poll.specs.Seen.{AreTold, IsTold, JobsTold, Sees, ViewTold, ViewsTold, views_of}
-use Rattle.fleet_poll.specs.Shown.{shown}
+use Rattle.fleet_poll.specs.Seen.{JobsMatch, MatchTables, MatchesTable, Sees, ViewMatches, ViewsMatch, views_of}
+use Rattle.fleet_poll.specs.Shown.{open_view}
 use Rattle.fleet_poll.specs.declared.poll.Poll.{Poll}
 use Rattle.fleet_poll.proofs.Joined.{written_ids}
 use Rattle.fleet_poll.proofs.MatchedTables.{all_back, all_both, all_front}
@@ -89,38 +89,38 @@ all_job_ids (job ∷ jobs) =
 
 -- ---- handles
 
-matched_handles : (tables : Tables) (handles : List SsTableHandle) → AreTold tables handles → map handle_of handles ≡ handles_of tables (table_ids handles)
+matched_handles : (tables : Tables) (handles : List SsTableHandle) → MatchTables tables handles → map handle_of handles ≡ handles_of tables (table_ids handles)
 matched_handles tables [] matched = refl
 matched_handles tables (handle ∷ handles) matched = rw (matched.0.describes, matched_handles tables handles matched.1) refl
 
-view_handles_matched : (tables : Tables) (views : List own.View) → ViewsTold tables views → AreTold tables (map (λ view. view.sst) views)
+view_handles_matched : (tables : Tables) (views : List own.View) → ViewsMatch tables views → MatchTables tables (map (λ view. view.sst) views)
 view_handles_matched tables [] matched = tt
 view_handles_matched tables (view ∷ views) matched = (matched.0.handle, view_handles_matched tables views matched.1)
 
-run_handles_matched : (tables : Tables) (runs : List SortedRun) → ViewsTold tables (flat_map (λ run. run.views) runs) → AreTold tables (flat_map run_handles runs)
+run_handles_matched : (tables : Tables) (runs : List SortedRun) → ViewsMatch tables (flat_map (λ run. run.views) runs) → MatchTables tables (flat_map run_handles runs)
 run_handles_matched tables [] matched = tt
 run_handles_matched tables (run ∷ runs) matched =
-    all_both (IsTold tables) (run_handles run) (flat_map run_handles runs) (view_handles_matched tables run.views (all_front (ViewTold tables) run.views (flat_map (λ r. r.views) runs) matched))
-    (run_handles_matched tables runs (all_back (ViewTold tables) run.views (flat_map (λ r. r.views) runs) matched))
+    all_both (MatchesTable tables) (run_handles run) (flat_map run_handles runs) (view_handles_matched tables run.views (all_front (ViewMatches tables) run.views (flat_map (λ r. r.views) runs) matched))
+    (run_handles_matched tables runs (all_back (ViewMatches tables) run.views (flat_map (λ r. r.views) runs) matched))
 
-tree_handles_matched : (tables : Tables) (tree : LsmTreeState) → ViewsTold tables (views_of tree) → AreTold tables (tree_handles tree)
+tree_handles_matched : (tables : Tables) (tree : LsmTreeState) → ViewsMatch tables (views_of tree) → MatchTables tables (tree_handles tree)
 tree_handles_matched tables tree matched =
-    all_both (IsTold tables) (map (λ view. view.sst) tree.l0) (flat_map run_handles tree.compacted) (view_handles_matched tables tree.l0 (all_front (ViewTold tables) tree.l0 (flat_map (λ r. r.views) tree.compacted) matched))
-    (run_handles_matched tables tree.compacted (all_back (ViewTold tables) tree.l0 (flat_map (λ r. r.views) tree.compacted) matched))
+    all_both (MatchesTable tables) (map (λ view. view.sst) tree.l0) (flat_map run_handles tree.compacted) (view_handles_matched tables tree.l0 (all_front (ViewMatches tables) tree.l0 (flat_map (λ r. r.views) tree.compacted) matched))
+    (run_handles_matched tables tree.compacted (all_back (ViewMatches tables) tree.l0 (flat_map (λ r. r.views) tree.compacted) matched))
 
-all_trees_matched : (tables : Tables) (trees : List (List ℕ × LsmTreeState)) → AllByRecursion (λ s. ViewsTold tables (views_of s.1)) trees → AreTold tables (flat_map (λ s. tree_handles s.1) trees)
+all_trees_matched : (tables : Tables) (trees : List (List ℕ × LsmTreeState)) → AllByRecursion (λ s. ViewsMatch tables (views_of s.1)) trees → MatchTables tables (flat_map (λ s. tree_handles s.1) trees)
 all_trees_matched tables [] matched = tt
-all_trees_matched tables (s ∷ trees) matched = all_both (IsTold tables) (tree_handles s.1) (flat_map (λ t. tree_handles t.1) trees) (tree_handles_matched tables s.1 matched.0) (all_trees_matched tables trees matched.1)
+all_trees_matched tables (s ∷ trees) matched = all_both (MatchesTable tables) (tree_handles s.1) (flat_map (λ t. tree_handles t.1) trees) (tree_handles_matched tables s.1 matched.0) (all_trees_matched tables trees matched.1)
 
-all_flat : {A : Type 0} (tables : Tables) (f : A → List SsTableHandle) (xs : List A) → AllByRecursion (λ x. AreTold tables (f x)) xs → AreTold tables (flat_map f xs)
+all_flat : {A : Type 0} (tables : Tables) (f : A → List SsTableHandle) (xs : List A) → AllByRecursion (λ x. MatchTables tables (f x)) xs → MatchTables tables (flat_map f xs)
 all_flat tables f [] matched = tt
-all_flat tables f (x ∷ xs) matched = all_both (IsTold tables) (f x) (flat_map f xs) matched.0 (all_flat tables f xs matched.1)
+all_flat tables f (x ∷ xs) matched = all_both (MatchesTable tables) (f x) (flat_map f xs) matched.0 (all_flat tables f xs matched.1)
 
-open_matched : (tables : Tables) (jobs : List JobParts) → JobsTold tables jobs → JobsTold tables (filter is_open jobs)
+open_matched : (tables : Tables) (jobs : List JobParts) → JobsMatch tables jobs → JobsMatch tables (filter is_open jobs)
 open_matched tables [] matched = tt
 open_matched tables (job ∷ jobs) matched = by (is_open job) (open_matched tables jobs matched.1)
   where
-    by : (b : Bool) → JobsTold tables (filter is_open jobs) → JobsTold tables (cond b (job ∷ filter is_open jobs) (filter is_open jobs))
+    by : (b : Bool) → JobsMatch tables (filter is_open jobs) → JobsMatch tables (cond b (job ∷ filter is_open jobs) (filter is_open jobs))
     by true rest = (matched.0, rest)
     by false rest = rest
 
@@ -156,22 +156,22 @@ module _ (flushes : RunFlushes) (input : PollInput) (s : Scheduler) (poll : Poll
       ≡ manifest_of flushes poll.state.manifest.id poll.state.manifest.manifest.compactor_epoch (own_core poll.state)
   manifest_is = ap (λ (m : Manifest). record m { trees = trees_of flushes (own_core poll.state); horizon = (own_core poll.state).horizon }) sees.manifest
 
-  ids_are : table_ids (handles_in (shown poll.state)) ≡ named_tables (trees_of flushes (own_core poll.state)) (filter is_active (jobs_of (own_jobs poll.state)))
+  ids_are : table_ids (handles_in (open_view poll.state)) ≡ named_tables (trees_of flushes (own_core poll.state)) (filter is_active (jobs_of (own_jobs poll.state)))
   ids_are =
       ids_both (flat_map (λ s. tree_handles s.1) (trees_with_prefix (own_core poll.state))) (flat_map job_handles (filter is_open still_open))
       ∙ ap (λ ids. ids ++ table_ids (flat_map job_handles (filter is_open still_open))) (tree_ids flushes (trees_with_prefix (own_core poll.state)))
       ∙ ap (λ ids. flat_map tree_tables (trees_of flushes (own_core poll.state)) ++ ids) (ap (λ js. table_ids (flat_map job_handles js)) (open_again (own_jobs poll.state)) ∙ all_job_ids still_open ∙ ap (flat_map job_tables) (open_are (own_jobs poll.state)))
 
-  handles_are : map handle_of (handles_in (shown poll.state)) ≡ handles_of input.tables (named_tables (trees_of flushes (own_core poll.state)) (filter is_active (jobs_of (own_jobs poll.state))))
+  handles_are : map handle_of (handles_in (open_view poll.state)) ≡ handles_of input.tables (named_tables (trees_of flushes (own_core poll.state)) (filter is_active (jobs_of (own_jobs poll.state))))
   handles_are =
-      matched_handles input.tables (handles_in (shown poll.state))
-      (all_both (IsTold input.tables) (flat_map (λ s. tree_handles s.1) (trees_with_prefix (own_core poll.state))) (flat_map job_handles (filter is_open still_open))
+      matched_handles input.tables (handles_in (open_view poll.state))
+      (all_both (MatchesTable input.tables) (flat_map (λ s. tree_handles s.1) (trees_with_prefix (own_core poll.state))) (flat_map job_handles (filter is_open still_open))
       (all_trees_matched input.tables (trees_with_prefix (own_core poll.state)) sees.trees)
       (all_flat input.tables job_handles (filter is_open still_open) (open_matched input.tables still_open (open_matched input.tables (own_jobs poll.state) sees.jobs))))
       ∙ ap (handles_of input.tables) ids_are
 
   -- The model's scheduler is shown what the program shows.
-  pub shown_is : model_view input (poll_of flushes poll) ≡ view_of flushes (shown poll.state)
+  pub shown_is : model_view input (poll_of flushes poll) ≡ view_of flushes (open_view poll.state)
   shown_is =
       let active = filter is_active (jobs_of (own_jobs poll.state)) in
       let named = handles_of input.tables (named_tables (trees_of flushes (own_core poll.state)) active) in
@@ -185,5 +185,5 @@ module _ (flushes : RunFlushes) (input : PollInput) (s : Scheduler) (poll : Poll
       ∙ ap (made_view manifest version epoch (jobs_of (filter is_open still_open))) (sym handles_are)
 
   -- The model accepts a job exactly if the program's scheduler does.
-  pub accepted_alike : (spec : JobSpec) → accepts input (poll_of flushes poll) spec ≡ accepted_on flushes (shown poll.state) s spec
-  accepted_alike spec = ap (λ v. input.scheduler.validate v spec) shown_is ∙ ap (λ (t : Scheduler). t.validate (view_of flushes (shown poll.state)) spec) sees.scheduler_is
+  pub accepted_alike : (spec : JobSpec) → accepts input (poll_of flushes poll) spec ≡ accepted_on flushes (open_view poll.state) s spec
+  accepted_alike spec = ap (λ v. input.scheduler.validate v spec) shown_is ∙ ap (λ (t : Scheduler). t.validate (view_of flushes (open_view poll.state)) spec) sees.scheduler_is

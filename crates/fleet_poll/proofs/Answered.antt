@@ -24,16 +24,16 @@ use Rattle.fleet_book.specs.VersionedRecords.{VersionedRecords}
 use Rattle.fleet_book.specs.Versions.{with_jobs}
 use Rattle.fleet_book.specs.declared.view.CompactorStateView.{CompactorStateView}
 use Rattle.fleet_gates.specs.Held.{Decides}
-use Rattle.fleet_gates.specs.Rules.{numbered}
+use Rattle.fleet_gates.specs.Rules.{rule_number}
 use Rattle.fleet_gates.specs.Shown.{accepted_on}
 use Rattle.fleet_gates.specs.declared.rule.Rule.{Rule}
 use Rattle.fleet_poll.specs.Made.{flushes_opened, own_core}
 use Rattle.fleet_poll.specs.Polls.{poll_of}
-use Rattle.fleet_poll.specs.Shown.{rule_of_gate, shown}
+use Rattle.fleet_poll.specs.Shown.{open_view, rule_of_gate}
 use Rattle.fleet_poll.specs.declared.poll.Poll.{Poll}
 
 -- A view with the manifest and the open jobs of a state is what is shown of the state.
-pub view_is : (state : StateParts) (view : CompactorStateView) → view.manifest ≡ state.manifest → view.compactions ≡ Some (with_jobs (filter is_open (own_jobs state)) state.compactions) → view ≡ shown state
+pub view_is : (state : StateParts) (view : CompactorStateView) → view.manifest ≡ state.manifest → view.compactions ≡ Some (with_jobs (filter is_open (own_jobs state)) state.compactions) → view ≡ open_view state
 view_is state view manifest jobs =
     let made : VersionedManifest → Option VersionedRecords → CompactorStateView = λ m c. record { manifest = m; compactions = c } in
     ap (λ m. made m view.compactions) manifest ∙ ap (made state.manifest) jobs
@@ -52,20 +52,20 @@ said_of_found P found job (Err e) is said = tt
 -- What the gate says of the job that is found.
 abbrev Said : RunFlushes → StateParts → Scheduler → List NodeName → List ℕ → Option Rule → JobParts → Type 0
 Said flushes state s held lost failed job = Decides held (jobs_of (own_jobs state)) lost (job_of job)
-    → numbered failed ≡ submit_gate (trees_of flushes (own_core state)) (jobs_of (own_jobs state)) lost (accepted_on flushes (shown state) s) (job_of job)
+    → rule_number failed ≡ submit_gate (trees_of flushes (own_core state)) (jobs_of (own_jobs state)) lost (accepted_on flushes (open_view state) s) (job_of job)
 
 pub stand_in : (flushes : RunFlushes) (state : StateParts) (s : Scheduler) (held : List NodeName) (lost : List ℕ) (failed : Option Rule) (found : Option JobParts)
     → IfSome found (Said flushes state s held lost failed) → ForSome found (λ job. Decides held (jobs_of (own_jobs state)) lost (job_of job)) → failed ≡ None → ForSome found (λ job. sources_stand job.spec (own_core state) ≡ true)
 stand_in flushes state s held lost failed found said decides none job e =
     let here : Said flushes state s held lost failed job = subst (λ f. IfSome f (Said flushes state s held lost failed)) e said in
-    submitted_sources_stand flushes (jobs_of (own_jobs state)) lost (accepted_on flushes (shown state) s) job (own_core state) (sym (here (decides job e)) ∙ ap numbered none)
+    submitted_sources_stand flushes (jobs_of (own_jobs state)) lost (accepted_on flushes (open_view state) s) job (own_core state) (sym (here (decides job e)) ∙ ap rule_number none)
 
 -- A step for a submitted job by the answer of its gate is the model's step 4 for the job.
 pub opened_in : (flushes : RunFlushes) (input : PollInput) (moves : Bool) (before after : Poll) (s : Scheduler) (held : List NodeName) (failed : Option Rule) (found : Option JobParts)
     → IfSome found (Said flushes before.state s held (lost_to_scheduler before.lost) failed) → ForSome found (λ job. Decides held (jobs_of (own_jobs before.state)) (lost_to_scheduler before.lost) (job_of job))
     → IfSome found (λ made. AllByRecursion (EndsFit input.tables) (taken_tables made.spec (own_core before.state))
-    → poll_of (flushes_opened (numbered failed) moves made (own_core before.state) flushes) after ≡ open_by input (job_of made) (numbered failed) (poll_of flushes before))
-    → IfSome found (λ made. accepts input (poll_of flushes before) (spec_of made.spec) ≡ accepted_on flushes (shown before.state) s (spec_of made.spec)
+    → poll_of (flushes_opened (rule_number failed) moves made (own_core before.state) flushes) after ≡ open_by input (job_of made) (rule_number failed) (poll_of flushes before))
+    → IfSome found (λ made. accepts input (poll_of flushes before) (spec_of made.spec) ≡ accepted_on flushes (open_view before.state) s (spec_of made.spec)
     → AllByRecursion (EndsFit input.tables) (taken_tables made.spec (own_core before.state))
     → poll_of (flushes_opened (rule_of_gate input (job_of made) (poll_of flushes before)) moves made (own_core before.state) flushes) after ≡ open_job input (job_of made) (poll_of flushes before))
 opened_in flushes input moves before after s held failed None said decides is = tt

@@ -21,8 +21,8 @@ use Rattle.fleet_book.specs.States.{own_jobs}
 use Rattle.fleet_book.specs.Versions.{with_jobs}
 use Rattle.fleet_poll.specs.Made.{PrefixesRise, joined_run, own_core}
 use Rattle.fleet_poll.specs.Loops.{OthersStay, StillSees}
-use Rattle.fleet_poll.specs.Polls.{HasSameObjects, changed_record, failed, waiting}
-use Rattle.fleet_poll.specs.Seen.{AreTold, JobsTold, Sees, TreesTold, ViewsTold, rest_of}
+use Rattle.fleet_poll.specs.Polls.{HasSameObjects, changed_record, failed_record, waiting_record}
+use Rattle.fleet_poll.specs.Seen.{JobsMatch, MatchTables, Sees, TreesMatch, ViewsMatch, rest_of}
 use Rattle.fleet_poll.proofs.Changed.{found_has_id, others_stay}
 use Rattle.fleet_poll.proofs.MatchedTables.{changed_hold, finished_trees_matched, found_holds, joined_matched, output_views, put_holds, written_matched}
 
@@ -41,10 +41,10 @@ finished_others id job output old new same is = λ other apart.
 
 -- What an input says of the state, it says of the state after a job is finished with tables that match those that were put.
 pub finished_sees : (job : JobParts) (output : Option SortedRun) (old : StateParts) (id : ℕ) → record_with id (own_jobs old) ≡ Some job
-    → ((input : PollInput) (scheduler : Scheduler) → Sees input scheduler old → AreTold input.tables (job_handles job) → ViewsTold input.tables (output_views output))
+    → ((input : PollInput) (scheduler : Scheduler) → Sees input scheduler old → MatchTables input.tables (job_handles job) → ViewsMatch input.tables (output_views output))
     → StillSees old (finished_state job output old)
 finished_sees job output old id found made input scheduler sees =
-    let matched = found_holds (λ j. AreTold input.tables (job_handles j)) id (own_jobs old) job found sees.jobs in
+    let matched = found_holds (λ j. MatchTables input.tables (job_handles j)) id (own_jobs old) job found sees.jobs in
     record {
       scheduler_is = sees.scheduler_is;
       manifest = sees.manifest;
@@ -52,7 +52,7 @@ finished_sees job output old id found made input scheduler sees =
       epoch = sees.epoch;
       prefixes = finished_prefixes job output (own_core old) sees.prefixes;
       trees = finished_trees_matched input.tables job output (own_core old) (made input scheduler sees matched) sees.trees;
-      jobs = put_holds (λ j. AreTold input.tables (job_handles j)) (with_status own.Completed job) (own_jobs old) matched sees.jobs;
+      jobs = put_holds (λ j. MatchTables input.tables (job_handles j)) (with_status own.Completed job) (own_jobs old) matched sees.jobs;
     }
 
 -- ---- a job whose record is changed alone
@@ -60,7 +60,7 @@ finished_sees job output old id found made input scheduler sees =
 -- A change that leaves the id of a job, and after which it names no other tables.
 pub record NamesNoMore (change : JobParts → JobParts) : Type 0 where
   pub id : (job : JobParts) → (change job).id ≡ job.id
-  pub matched : (input : PollInput) (job : JobParts) → AreTold input.tables (job_handles job) → AreTold input.tables (job_handles (change job))
+  pub matched : (input : PollInput) (job : JobParts) → MatchTables input.tables (job_handles job) → MatchTables input.tables (job_handles (change job))
 
 -- A change of the job with one id leaves the record of each other job as it is.
 changed_stay : (change : JobParts → JobParts) (id : ℕ) (jobs : List JobParts) (other : ℕ) → ((job : JobParts) → (change job).id ≡ job.id) → (id == other) ≡ false
@@ -91,8 +91,8 @@ changed_sees change these old new names same is input scheduler sees = record {
   version = sees.version ∙ sym same.version;
   epoch = sees.epoch ∙ sym same.epoch;
   prefixes = subst (λ (m : VersionedManifest). PrefixesRise m.manifest.core) (sym same.manifest) sees.prefixes;
-  trees = subst (λ (m : VersionedManifest). TreesTold input.tables m.manifest.core) (sym same.manifest) sees.trees;
-  jobs = subst (JobsTold input.tables) (sym is) (changed_hold (λ j. AreTold input.tables (job_handles j)) change these (own_jobs old) (names.matched input) sees.jobs);
+  trees = subst (λ (m : VersionedManifest). TreesMatch input.tables m.manifest.core) (sym same.manifest) sees.trees;
+  jobs = subst (JobsMatch input.tables) (sym is) (changed_hold (λ j. MatchTables input.tables (job_handles j)) change these (own_jobs old) (names.matched input) sees.jobs);
 }
 
 -- ---- the steps
@@ -101,7 +101,7 @@ pub on_both : {A E P Q R : Type 0} (r : Result A E) → (P → Q → R) → OnOk
 on_both (Ok x) f p q = f p q
 on_both (Err e) f p q = tt
 
-pub failed_names : NamesNoMore failed
+pub failed_names : NamesNoMore failed_record
 failed_names = record { id = λ job. refl; matched = λ input job matched. written_matched input.tables job matched }
 
 -- What is left by the step of a job that is found, and that is finished with a run of its own tables.
@@ -126,8 +126,8 @@ added_sees old new job id spec fresh is input scheduler sees = subst (Sees input
   epoch = sees.epoch;
   prefixes = sees.prefixes;
   trees = sees.trees;
-  jobs = put_holds (λ j. AreTold input.tables (job_handles j)) job (own_jobs old) (subst (λ j. AreTold input.tables (job_handles j)) (sym fresh) tt) sees.jobs;
+  jobs = put_holds (λ j. MatchTables input.tables (job_handles j)) job (own_jobs old) (subst (λ j. MatchTables input.tables (job_handles j)) (sym fresh) tt) sees.jobs;
 })
 
-pub waiting_names : NamesNoMore waiting
+pub waiting_names : NamesNoMore waiting_record
 waiting_names = record { id = λ job. refl; matched = λ input job matched. matched }

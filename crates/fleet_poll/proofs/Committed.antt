@@ -23,11 +23,11 @@ use Rattle.fleet_jobs.proofs.ModelPlaces.{standing_sources_stand}
 use Rattle.fleet_book.specs.Records.{AreRising, record_with}
 use Rattle.fleet_book.specs.StateParts.{StateParts}
 use Rattle.fleet_book.specs.States.{own_jobs}
-use Rattle.fleet_gates.specs.Rules.{numbered}
+use Rattle.fleet_gates.specs.Rules.{rule_number}
 use Rattle.fleet_gates.specs.declared.rule.Rule.{Rule}
 use Rattle.fleet_poll.specs.Made.{EndsRise, flushes_committed, own_core, written_tables}
 use Rattle.fleet_poll.specs.Polls.{poll_of}
-use Rattle.fleet_poll.specs.Seen.{AreTold, Sees}
+use Rattle.fleet_poll.specs.Seen.{MatchTables, Sees}
 use Rattle.fleet_poll.specs.Shown.{PassesCommit, commit_rule}
 use Rattle.fleet_poll.specs.Loops.{CommitsStand, HasReached, LostAreOver, MayCommit, MayJoin, OthersStay, StillSees, is_compacted}
 use Rattle.fleet_poll.specs.declared.poll.Poll.{Poll}
@@ -38,9 +38,9 @@ use Rattle.fleet_poll.proofs.MatchedTables.{found_holds, written_matched}
 
 -- What the gate said of the job that is found.
 abbrev pub SaidOf : Scheduler → StateParts → Option Rule → JobParts → Type 0
-SaidOf s state failed job = (flushes : RunFlushes) → numbered failed ≡ commit_rule flushes s state job
+SaidOf s state failed job = (flushes : RunFlushes) → rule_number failed ≡ commit_rule flushes s state job
 
-pub said_of : (s : Scheduler) (state : StateParts) (failed : Option Rule) (found : Option JobParts) → ((flushes : RunFlushes) → IfSome found (λ job. numbered failed ≡ commit_rule flushes s state job)) → IfSome found (SaidOf s state failed)
+pub said_of : (s : Scheduler) (state : StateParts) (failed : Option Rule) (found : Option JobParts) → ((flushes : RunFlushes) → IfSome found (λ job. rule_number failed ≡ commit_rule flushes s state job)) → IfSome found (SaidOf s state failed)
 said_of s state failed None said = tt
 said_of s state failed (Some job) said = said
 
@@ -48,7 +48,7 @@ pub may_join_in : (s : Scheduler) (state : StateParts) (failed : Option Rule) (f
     → ForSome found (λ job. PassesCommit s state job → MayJoin job (own_core state)) → failed ≡ None → ForSome found (λ job. MayJoin job (own_core state))
 may_join_in s state failed found said may none job e =
     let here : SaidOf s state failed job = subst (λ f. IfSome f (SaidOf s state failed)) e said in
-    may job e (λ flushes. sym (here flushes) ∙ ap numbered none)
+    may job e (λ flushes. sym (here flushes) ∙ ap rule_number none)
 
 -- What the model's gate says of a job is what the program's gate says.
 pub rule_alike : (flushes : RunFlushes) (input : PollInput) (s : Scheduler) (poll : Poll) (job : JobParts) → Sees input s poll.state
@@ -59,7 +59,7 @@ pub floor_is : (input : PollInput) (s : Scheduler) (state : StateParts) → Sees
 floor_is input s state sees = ap (λ (m : Manifest). m.floor) sees.manifest
 
 pub committed_in : (flushes : RunFlushes) (input : PollInput) (s : Scheduler) (before after : Poll) (failed : Option Rule) (found : Option JobParts) → Sees input s before.state → IfSome found (SaidOf s before.state failed)
-    → IfSome found (λ job. poll_of (flushes_committed (numbered failed) job (own_core before.state) flushes) after ≡ commit_by input (job_of job) (numbered failed) (poll_of flushes before))
+    → IfSome found (λ job. poll_of (flushes_committed (rule_number failed) job (own_core before.state) flushes) after ≡ commit_by input (job_of job) (rule_number failed) (poll_of flushes before))
     → IfSome found (λ job. poll_of (flushes_committed (commit_rule flushes s before.state job) job (own_core before.state) flushes) after ≡ commit_job input (job_of job) (poll_of flushes before))
 committed_in flushes input s before after failed None sees said is = tt
 committed_in flushes input s before after failed (Some job) sees said is =
@@ -73,7 +73,7 @@ makes_run : (trees : Trees) (tree : Tree) (sources : List NodeName) (destination
 makes_run trees tree sources None fits = absurd fits
 makes_run trees tree sources (Some id) fits = refl
 
-ends_rise : (input : PollInput) (tables : List SsTableHandle) → AreTold input.tables tables → EndsRise tables
+ends_rise : (input : PollInput) (tables : List SsTableHandle) → MatchTables input.tables tables → EndsRise tables
 ends_rise input [] matched = tt
 ends_rise input (table ∷ tables) matched = (matched.0.rising, ends_rise input tables matched.1)
 
@@ -84,7 +84,7 @@ pub stands_in : (flushes : RunFlushes) (input : PollInput) (s : Scheduler) (poll
 stands_in flushes input s poll id job sees found stands passes =
     let core = own_core poll.state in
     let stand = stands (rule_alike flushes input s poll job sees ∙ passes flushes) in
-    let matched = found_holds (λ j. AreTold input.tables (job_handles j)) id (own_jobs poll.state) job found sees.jobs in
+    let matched = found_holds (λ j. MatchTables input.tables (job_handles j)) id (own_jobs poll.state) job found sees.jobs in
     record {
       run = makes_run (trees_of flushes core) (tree_at (segment_of job.spec) (trees_of flushes core)) (names_of job.spec) (destination_of job.spec) stand.destination;
       keys = ends_rise input (written_tables job) (written_matched input.tables job matched);

@@ -18,8 +18,8 @@ use Rattle.fleet_book.specs.Records.{AreRising, record_with}
 use Rattle.fleet_book.specs.States.{own_jobs}
 use Rattle.fleet_poll.specs.Loops.{IsDecision, StillSees, Fails, Ends, Waits}
 use Rattle.fleet_poll.specs.Made.{own_core, run_if_moved}
-use Rattle.fleet_poll.specs.Polls.{HasSameObjects, changed_record, failed, opened}
-use Rattle.fleet_poll.specs.Seen.{AreTold, Sees, ViewsTold}
+use Rattle.fleet_poll.specs.Polls.{HasSameObjects, changed_record, failed_record, opened_record}
+use Rattle.fleet_poll.specs.Seen.{MatchTables, Sees, ViewsMatch}
 use Rattle.fleet_poll.specs.declared.poll.Poll.{Poll}
 use Rattle.fleet_poll.proofs.Carried.{NamesNoMore, changed_others, changed_sees, failed_names, finished_others, finished_sees}
 use Rattle.fleet_poll.proofs.Changed.{found_has_id}
@@ -28,31 +28,31 @@ use Rattle.fleet_poll.proofs.Records.{failed_are, opened_are}
 use Rattle.fleet_poll.proofs.Taken.{moved_matched, taken_matched}
 use Rattle.fleet_poll.proofs.MatchedTables.{output_views, written_matched}
 
-opened_names : (trees : Trees) → NamesNoMore (opened trees)
+opened_names : (trees : Trees) → NamesNoMore (opened_record trees)
 opened_names trees = record { id = λ job. refl; matched = λ input job matched. written_matched input.tables job matched }
 
-pub by_refusal : (id : ℕ) (old new : Poll) → HasSameObjects old.state new.state → own_jobs new.state ≡ map (changed_record failed (id ∷ [])) (own_jobs old.state) → new.lost ≡ old.lost → IsDecision id old new
+pub by_refusal : (id : ℕ) (old new : Poll) → HasSameObjects old.state new.state → own_jobs new.state ≡ map (changed_record failed_record (id ∷ [])) (own_jobs old.state) → new.lost ≡ old.lost → IsDecision id old new
 by_refusal id old new same jobs lost = record {
-  others = changed_others failed id old.state new.state failed_names jobs;
-  sees = changed_sees failed (id ∷ []) old.state new.state failed_names same jobs;
+  others = changed_others failed_record id old.state new.state failed_names jobs;
+  sees = changed_sees failed_record (id ∷ []) old.state new.state failed_names same jobs;
   lost = lost;
   jobs = Fails (ap jobs_of jobs ∙ failed_are (id ∷ []) (own_jobs old.state));
 }
 
 pub by_opening : (id : ℕ) (old new : Poll) → HasSameObjects old.state new.state
-    → own_jobs new.state ≡ map (changed_record (opened (trees_of (λ prefix run. []) (own_core old.state))) (id ∷ [])) (own_jobs old.state) → new.lost ≡ old.lost → IsDecision id old new
+    → own_jobs new.state ≡ map (changed_record (opened_record (trees_of (λ prefix run. []) (own_core old.state))) (id ∷ [])) (own_jobs old.state) → new.lost ≡ old.lost → IsDecision id old new
 by_opening id old new same jobs lost =
     let trees = trees_of (λ prefix run. []) (own_core old.state) in
     record {
-      others = changed_others (opened trees) id old.state new.state (opened_names trees) jobs;
-      sees = changed_sees (opened trees) (id ∷ []) old.state new.state (opened_names trees) same jobs;
+      others = changed_others (opened_record trees) id old.state new.state (opened_names trees) jobs;
+      sees = changed_sees (opened_record trees) (id ∷ []) old.state new.state (opened_names trees) same jobs;
       lost = lost;
       jobs = Waits (tables_now trees) (ap jobs_of jobs ∙ opened_are trees (id ∷ []) (own_jobs old.state));
     }
 
 -- A job that is finished at once, with tables that match the tables that were put.
 finished_is : (id : ℕ) (old new : Poll) (job : JobParts) (output : Option SortedRun) → AreRising (own_jobs old.state) → record_with id (own_jobs old.state) ≡ Some job → new.state ≡ finished_state job output old.state
-    → ((input : PollInput) (scheduler : Scheduler) → Sees input scheduler old.state → AreTold input.tables (job_handles job) → ViewsTold input.tables (output_views output))
+    → ((input : PollInput) (scheduler : Scheduler) → Sees input scheduler old.state → MatchTables input.tables (job_handles job) → ViewsMatch input.tables (output_views output))
     → new.lost ≡ old.lost → IsDecision id old new
 finished_is id old new job output rising found is matched lost =
     let same : job.id ≡ id = found_has_id id (own_jobs old.state) job found in

@@ -19,7 +19,7 @@ use Rattle.fleet_book.specs.Finishes.{core_after, finished_tree, is_named, kept_
 use Rattle.fleet_book.specs.Records.{put_record, record_with}
 use Rattle.fleet_poll.specs.Made.{joined_run, own_views, run_of_tables, written_tables}
 use Rattle.fleet_poll.specs.Polls.{changed_record}
-use Rattle.fleet_poll.specs.Seen.{AreTold, IsTold, TreesTold, ViewTold, ViewsTold, views_of}
+use Rattle.fleet_poll.specs.Seen.{MatchTables, MatchesTable, TreesMatch, ViewMatches, ViewsMatch, views_of}
 
 pub all_both : {A : Type 0} (P : A → Type 0) (xs ys : List A) → AllByRecursion P xs → AllByRecursion P ys → AllByRecursion P (xs ++ ys)
 all_both P [] ys one two = two
@@ -41,73 +41,73 @@ output_views (Some run) = run.views
 -- ---- trees
 
 module _ (tables : Tables) (sources : List SourceId) where
-  views_kept : (views : List View) → ViewsTold tables views → ViewsTold tables (kept_views sources views)
+  views_kept : (views : List View) → ViewsMatch tables views → ViewsMatch tables (kept_views sources views)
   views_kept [] matched = tt
   views_kept (view ∷ views) matched = by (is_named sources (L0 view.id)) (views_kept views matched.1)
     where
-      by : (b : Bool) → ViewsTold tables (kept_views sources views) → ViewsTold tables (cond (not b) (view ∷ kept_views sources views) (kept_views sources views))
+      by : (b : Bool) → ViewsMatch tables (kept_views sources views) → ViewsMatch tables (cond (not b) (view ∷ kept_views sources views) (kept_views sources views))
       by true rest = rest
       by false rest = (matched.0, rest)
 
-  runs_kept : (runs : List SortedRun) → ViewsTold tables (flat_map (λ run. run.views) runs) → ViewsTold tables (flat_map (λ run. run.views) (kept_runs sources runs))
+  runs_kept : (runs : List SortedRun) → ViewsMatch tables (flat_map (λ run. run.views) runs) → ViewsMatch tables (flat_map (λ run. run.views) (kept_runs sources runs))
   runs_kept [] matched = tt
-  runs_kept (run ∷ runs) matched = by (is_named sources (Run run.id)) (runs_kept runs (all_back (ViewTold tables) run.views (flat_map (λ r. r.views) runs) matched))
+  runs_kept (run ∷ runs) matched = by (is_named sources (Run run.id)) (runs_kept runs (all_back (ViewMatches tables) run.views (flat_map (λ r. r.views) runs) matched))
     where
-      by : (b : Bool) → ViewsTold tables (flat_map (λ r. r.views) (kept_runs sources runs)) → ViewsTold tables (flat_map (λ r. r.views) (cond (not b) (run ∷ kept_runs sources runs) (kept_runs sources runs)))
+      by : (b : Bool) → ViewsMatch tables (flat_map (λ r. r.views) (kept_runs sources runs)) → ViewsMatch tables (flat_map (λ r. r.views) (cond (not b) (run ∷ kept_runs sources runs) (kept_runs sources runs)))
       by true rest = rest
-      by false rest = all_both (ViewTold tables) run.views (flat_map (λ r. r.views) (kept_runs sources runs)) (all_front (ViewTold tables) run.views (flat_map (λ r. r.views) runs) matched) rest
+      by false rest = all_both (ViewMatches tables) run.views (flat_map (λ r. r.views) (kept_runs sources runs)) (all_front (ViewMatches tables) run.views (flat_map (λ r. r.views) runs) matched) rest
 
-  put_matched : (run : SortedRun) (runs : List SortedRun) → ViewsTold tables run.views → ViewsTold tables (flat_map (λ r. r.views) runs) → ViewsTold tables (flat_map (λ r. r.views) (put_run run runs))
-  put_matched run [] one matched = all_both (ViewTold tables) run.views [] one tt
-  put_matched run (other ∷ others) one matched = by (nat_lt other.id run.id) (put_matched run others one (all_back (ViewTold tables) other.views (flat_map (λ r. r.views) others) matched))
+  put_matched : (run : SortedRun) (runs : List SortedRun) → ViewsMatch tables run.views → ViewsMatch tables (flat_map (λ r. r.views) runs) → ViewsMatch tables (flat_map (λ r. r.views) (put_run run runs))
+  put_matched run [] one matched = all_both (ViewMatches tables) run.views [] one tt
+  put_matched run (other ∷ others) one matched = by (nat_lt other.id run.id) (put_matched run others one (all_back (ViewMatches tables) other.views (flat_map (λ r. r.views) others) matched))
     where
-      by : (b : Bool) → ViewsTold tables (flat_map (λ r. r.views) (put_run run others)) → ViewsTold tables (flat_map (λ r. r.views) (cond b (run ∷ other ∷ others) (other ∷ put_run run others)))
-      by true rest = all_both (ViewTold tables) run.views (flat_map (λ r. r.views) (other ∷ others)) one matched
-      by false rest = all_both (ViewTold tables) other.views (flat_map (λ r. r.views) (put_run run others)) (all_front (ViewTold tables) other.views (flat_map (λ r. r.views) others) matched) rest
+      by : (b : Bool) → ViewsMatch tables (flat_map (λ r. r.views) (put_run run others)) → ViewsMatch tables (flat_map (λ r. r.views) (cond b (run ∷ other ∷ others) (other ∷ put_run run others)))
+      by true rest = all_both (ViewMatches tables) run.views (flat_map (λ r. r.views) (other ∷ others)) one matched
+      by false rest = all_both (ViewMatches tables) other.views (flat_map (λ r. r.views) (put_run run others)) (all_front (ViewMatches tables) other.views (flat_map (λ r. r.views) others) matched) rest
 
-  output_matched : (output : Option SortedRun) (runs : List SortedRun) → ViewsTold tables (output_views output) → ViewsTold tables (flat_map (λ r. r.views) runs) → ViewsTold tables (flat_map (λ r. r.views) (with_output output runs))
+  output_matched : (output : Option SortedRun) (runs : List SortedRun) → ViewsMatch tables (output_views output) → ViewsMatch tables (flat_map (λ r. r.views) runs) → ViewsMatch tables (flat_map (λ r. r.views) (with_output output runs))
   output_matched None runs one matched = matched
   output_matched (Some run) runs one matched = put_matched run runs one matched
 
-  finished_tree_matched : (output : Option SortedRun) (tree : LsmTreeState) → ViewsTold tables (output_views output) → ViewsTold tables (views_of tree) → ViewsTold tables (views_of (finished_tree sources output tree))
+  finished_tree_matched : (output : Option SortedRun) (tree : LsmTreeState) → ViewsMatch tables (output_views output) → ViewsMatch tables (views_of tree) → ViewsMatch tables (views_of (finished_tree sources output tree))
   finished_tree_matched output tree one matched =
       let runs = flat_map (λ (r : SortedRun). r.views) tree.compacted in
-      all_both (ViewTold tables) (kept_views sources tree.l0) (flat_map (λ r. r.views) (with_output output (kept_runs sources tree.compacted)))
-      (views_kept tree.l0 (all_front (ViewTold tables) tree.l0 runs matched))
-      (output_matched output (kept_runs sources tree.compacted) one (runs_kept tree.compacted (all_back (ViewTold tables) tree.l0 runs matched)))
+      all_both (ViewMatches tables) (kept_views sources tree.l0) (flat_map (λ r. r.views) (with_output output (kept_runs sources tree.compacted)))
+      (views_kept tree.l0 (all_front (ViewMatches tables) tree.l0 runs matched))
+      (output_matched output (kept_runs sources tree.compacted) one (runs_kept tree.compacted (all_back (ViewMatches tables) tree.l0 runs matched)))
 
-module _ (tables : Tables) (spec : CompactionSpec) (output : Option SortedRun) (one : ViewsTold tables (output_views output)) where
-  tree_matched : (prefix : List ℕ) (tree : LsmTreeState) → ViewsTold tables (views_of tree) → ViewsTold tables (views_of (tree_after spec output prefix tree))
+module _ (tables : Tables) (spec : CompactionSpec) (output : Option SortedRun) (one : ViewsMatch tables (output_views output)) where
+  tree_matched : (prefix : List ℕ) (tree : LsmTreeState) → ViewsMatch tables (views_of tree) → ViewsMatch tables (views_of (tree_after spec output prefix tree))
   tree_matched prefix tree matched = by (bytes_eq (segment_of spec) prefix)
     where
-      by : (b : Bool) → ViewsTold tables (views_of (cond b (finished_tree (sources_of spec) output tree) tree))
+      by : (b : Bool) → ViewsMatch tables (views_of (cond b (finished_tree (sources_of spec) output tree) tree))
       by true = finished_tree_matched tables (sources_of spec) output tree one matched
       by false = matched
 
-  segments_matched : (segments : List (List ℕ × LsmTreeState)) → AllByRecursion (λ s. ViewsTold tables (views_of s.1)) segments → AllByRecursion (λ s. ViewsTold tables (views_of s.1)) (map (segment_after spec output) segments)
+  segments_matched : (segments : List (List ℕ × LsmTreeState)) → AllByRecursion (λ s. ViewsMatch tables (views_of s.1)) segments → AllByRecursion (λ s. ViewsMatch tables (views_of s.1)) (map (segment_after spec output) segments)
   segments_matched [] matched = tt
   segments_matched (s ∷ segments) matched = (tree_matched s.0 s.1 matched.0, segments_matched segments matched.1)
 
 -- If the tables of the trees match the tables that were put, and those of the run that is made do, so do those of the trees
 -- after it.
-pub finished_trees_matched : (tables : Tables) (job : JobParts) (output : Option SortedRun) (core : ManifestCore) → ViewsTold tables (output_views output) → TreesTold tables core → TreesTold tables (core_after job output core)
+pub finished_trees_matched : (tables : Tables) (job : JobParts) (output : Option SortedRun) (core : ManifestCore) → ViewsMatch tables (output_views output) → TreesMatch tables core → TreesMatch tables (core_after job output core)
 finished_trees_matched tables job output core one matched = (tree_matched tables job.spec output one [] core.tree matched.0, segments_matched tables job.spec output one core.segments matched.1)
 
 -- ---- jobs
 
 -- A run names its own tables by their own ids.
-own_matched : (tables : Tables) (handles : List SsTableHandle) → AreTold tables handles → ViewsTold tables (own_views handles)
+own_matched : (tables : Tables) (handles : List SsTableHandle) → MatchTables tables handles → ViewsMatch tables (own_views handles)
 own_matched tables [] matched = tt
 own_matched tables (handle ∷ handles) matched = (record { identity = refl; handle = matched.0 }, own_matched tables handles matched.1)
 
 -- The tables that a job's worker wrote are among those that its record names.
-pub written_matched : (tables : Tables) (job : JobParts) → AreTold tables (job_handles job) → AreTold tables (written_tables job)
-written_matched tables job matched = all_back (IsTold tables) (flat_map (λ range. range.output_ssts) (ranges_in job.ctx)) (written_tables job) matched
+pub written_matched : (tables : Tables) (job : JobParts) → MatchTables tables (job_handles job) → MatchTables tables (written_tables job)
+written_matched tables job matched = all_back (MatchesTable tables) (flat_map (λ range. range.output_ssts) (ranges_in job.ctx)) (written_tables job) matched
 
-pub joined_matched : (tables : Tables) (job : JobParts) → AreTold tables (job_handles job) → ViewsTold tables (output_views (joined_run job))
+pub joined_matched : (tables : Tables) (job : JobParts) → MatchTables tables (job_handles job) → ViewsMatch tables (output_views (joined_run job))
 joined_matched tables job matched = by (destination_of job.spec)
   where
-    by : (destination : Option ℕ) → ViewsTold tables (output_views (run_of_tables destination (written_tables job)))
+    by : (destination : Option ℕ) → ViewsMatch tables (output_views (run_of_tables destination (written_tables job)))
     by None = tt
     by (Some id) = own_matched tables (written_tables job) (written_matched tables job matched)
 

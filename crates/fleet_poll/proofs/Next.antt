@@ -22,7 +22,7 @@ use Rattle.fleet_poll.specs.Loops.{HasReached, IsDecision, is_submitted, nodes_h
 use Rattle.fleet_poll.specs.Made.{flushes_opened, own_core}
 use Rattle.fleet_poll.specs.Polls.{poll_of}
 use Rattle.fleet_poll.specs.Seen.{Sees}
-use Rattle.fleet_poll.specs.Shown.{rule_of_gate, shown}
+use Rattle.fleet_poll.specs.Shown.{open_view, rule_of_gate}
 use Rattle.fleet_poll.specs.declared.poll.Poll.{Poll}
 use Rattle.fleet_poll.proofs.Alike.{accepted_alike}
 use Rattle.fleet_poll.proofs.StillHeld.{decides_for, held_after}
@@ -49,7 +49,7 @@ all_decide id poll nodes rising submitted kept held job e = decides_for id (own_
 
 -- The poll has reached what the model's step 4 leaves for the job, with some account of the flushes of runs.
 pub reached_next : (flushes : RunFlushes) (input : PollInput) (s : Scheduler) (moves : Bool) (before after : Poll) (found : Option JobParts) → Sees input s before.state
-    → IfSome found (λ made. accepts input (poll_of flushes before) (spec_of made.spec) ≡ accepted_on flushes (shown before.state) s (spec_of made.spec)
+    → IfSome found (λ made. accepts input (poll_of flushes before) (spec_of made.spec) ≡ accepted_on flushes (open_view before.state) s (spec_of made.spec)
     → AllByRecursion (EndsFit input.tables) (taken_tables made.spec (own_core before.state))
     → poll_of (flushes_opened (rule_of_gate input (job_of made) (poll_of flushes before)) moves made (own_core before.state) flushes) after ≡ open_job input (job_of made) (poll_of flushes before))
     → IfSome found (λ made. HasReached after (open_job input (job_of made) (poll_of flushes before)))

@@ -18,7 +18,7 @@ use Rattle.fleet_jobs.specs.Specs.{destination_of, spec_of}
 use Rattle.fleet_jobs.specs.Taken.{taken_tables}
 use Rattle.fleet_book.specs.Records.{record_with}
 use Rattle.fleet_book.specs.States.{own_jobs}
-use Rattle.fleet_gates.specs.Rules.{number_of, numbered}
+use Rattle.fleet_gates.specs.Rules.{number_of, rule_number}
 use Rattle.fleet_gates.specs.declared.rule.Rule.{Rule}
 use Rattle.fleet_poll.specs.Made.{flushes_after, flushes_opened, is_drain_if_there, own_core, run_if_moved}
 use Rattle.fleet_poll.specs.Polls.{poll_of}
@@ -99,11 +99,11 @@ of_found P id jobs all = by (record_with id jobs) refl
 pub refused_in : (flushes : RunFlushes) (input : PollInput) (moves : Bool) (before after : Poll) (id : ℕ) (rule : Rule)
     → ((job : Job) → job.id ≡ id → poll_of flushes after ≡ open_by input job (Some (number_of rule)) (poll_of flushes before))
     → IfSome (record_with id (own_jobs before.state)) (λ job. AllByRecursion (EndsFit input.tables) (taken_tables job.spec (own_core before.state))
-    → poll_of (flushes_opened (numbered (Some rule)) moves job (own_core before.state) flushes) after ≡ open_by input (job_of job) (numbered (Some rule)) (poll_of flushes before))
+    → poll_of (flushes_opened (rule_number (Some rule)) moves job (own_core before.state) flushes) after ≡ open_by input (job_of job) (rule_number (Some rule)) (poll_of flushes before))
 refused_in flushes input moves before after id rule all = by (record_with id (own_jobs before.state)) refl
   where
     by : (found : Option JobParts) → record_with id (own_jobs before.state) ≡ found
         → IfSome found (λ job. AllByRecursion (EndsFit input.tables) (taken_tables job.spec (own_core before.state))
-        → poll_of (flushes_opened (numbered (Some rule)) moves job (own_core before.state) flushes) after ≡ open_by input (job_of job) (numbered (Some rule)) (poll_of flushes before))
+        → poll_of (flushes_opened (rule_number (Some rule)) moves job (own_core before.state) flushes) after ≡ open_by input (job_of job) (rule_number (Some rule)) (poll_of flushes before))
     by None e = tt
     by (Some job) e = λ fit. all (job_of job) (found_has_id id (own_jobs before.state) job e)

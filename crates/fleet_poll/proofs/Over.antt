@@ -13,7 +13,7 @@ use Rattle.fleet_book.specs.StateParts.{StateParts}
 use Rattle.fleet_book.specs.States.{own_jobs}
 use Rattle.fleet_poll.specs.Loops.{LostAreOver, OthersStay, is_over_if_there}
 use Rattle.fleet_poll.specs.Made.{joined_run}
-use Rattle.fleet_poll.specs.Polls.{changed_record, failed}
+use Rattle.fleet_poll.specs.Polls.{changed_record, failed_record}
 use Rattle.fleet_poll.specs.declared.poll.Poll.{Poll}
 use Rattle.fleet_poll.proofs.Carried.{failed_names, changed_others, joined_others}
 use Rattle.fleet_poll.proofs.Changed.{found_has_id}
@@ -22,21 +22,21 @@ use Rattle.fleet_poll.proofs.MatchedTables.{all_both}
 -- ---- the record of the job
 
 -- The record of a job that fails is that of the failed job.
-failed_here : (id : ℕ) (jobs : List JobParts) → record_with id (map (changed_record failed (id ∷ [])) jobs) ≡ option_map failed (record_with id jobs)
+failed_here : (id : ℕ) (jobs : List JobParts) → record_with id (map (changed_record failed_record (id ∷ [])) jobs) ≡ option_map failed_record (record_with id jobs)
 failed_here id [] = refl
 failed_here id (job ∷ jobs) = by (id == job.id) refl (failed_here id jobs)
   where
     rest_after : List JobParts
-    rest_after = map (changed_record failed (id ∷ [])) jobs
+    rest_after = map (changed_record failed_record (id ∷ [])) jobs
 
-    by : (b : Bool) → (id == job.id) ≡ b → record_with id rest_after ≡ option_map failed (record_with id jobs)
-        → cond ((cond (cond b true false) (failed job) job).id == id) (Some (cond (cond b true false) (failed job) job)) (record_with id rest_after) ≡ option_map failed (cond (job.id == id) (Some job) (record_with id jobs))
+    by : (b : Bool) → (id == job.id) ≡ b → record_with id rest_after ≡ option_map failed_record (record_with id jobs)
+        → cond ((cond (cond b true false) (failed_record job) job).id == id) (Some (cond (cond b true false) (failed_record job) job)) (record_with id rest_after) ≡ option_map failed_record (cond (job.id == id) (Some job) (record_with id jobs))
     by true e rest =
         let is = nat_eq_equiv.symm job.id id ∙ e in
-        ap (λ c. cond c (Some (failed job)) (record_with id rest_after)) is ∙ sym (ap (λ c. option_map failed (cond c (Some job) (record_with id jobs))) is)
+        ap (λ c. cond c (Some (failed_record job)) (record_with id rest_after)) is ∙ sym (ap (λ c. option_map failed_record (cond c (Some job) (record_with id jobs))) is)
     by false e rest =
         let is = nat_eq_equiv.symm job.id id ∙ e in
-        ap (λ c. cond c (Some job) (record_with id rest_after)) is ∙ rest ∙ sym (ap (λ c. option_map failed (cond c (Some job) (record_with id jobs))) is)
+        ap (λ c. cond c (Some job) (record_with id rest_after)) is ∙ rest ∙ sym (ap (λ c. option_map failed_record (cond c (Some job) (record_with id jobs))) is)
 
 -- A job that is put is found by its id.
 put_here : (new : JobParts) (jobs : List JobParts) → record_with new.id (put_record new jobs) ≡ Some new
@@ -74,14 +74,14 @@ over_after id old new (l ∷ lost) stay over all = (by (id == l.0) refl, over_af
     by false e = ap is_over_if_there (stay l.0 e) ∙ all.0
 
 -- The job that is lost is over, and so are those that were lost before.
-pub lost_is_over : (id rule : ℕ) (old new : Poll) → IsSome (record_with id (own_jobs old.state)) → own_jobs new.state ≡ map (changed_record failed (id ∷ [])) (own_jobs old.state) → new.lost ≡ old.lost ++ (id, rule) ∷ []
+pub lost_is_over : (id rule : ℕ) (old new : Poll) → IsSome (record_with id (own_jobs old.state)) → own_jobs new.state ≡ map (changed_record failed_record (id ∷ [])) (own_jobs old.state) → new.lost ≡ old.lost ++ (id, rule) ∷ []
     → LostAreOver old → LostAreOver new
 lost_is_over id rule old new there is more all =
     subst (λ lost. AllByRecursion (λ l. is_over_if_there (record_with l.0 (own_jobs new.state)) ≡ true) lost) (sym more)
     (all_both (λ l. is_over_if_there (record_with l.0 (own_jobs new.state)) ≡ true) old.lost ((id, rule) ∷ [])
-    (over_after id old.state new.state old.lost (changed_others failed id old.state new.state failed_names is) over all) (over, tt))
+    (over_after id old.state new.state old.lost (changed_others failed_record id old.state new.state failed_names is) over all) (over, tt))
   where
-    failed_over : (found : Option JobParts) → IsSome found → is_over_if_there (option_map failed found) ≡ true
+    failed_over : (found : Option JobParts) → IsSome found → is_over_if_there (option_map failed_record found) ≡ true
     failed_over None none = absurd (cc none)
     failed_over (Some job) some = refl
 

@@ -22,7 +22,7 @@ use Rattle.fleet_history.specs.Changes.{new_specs}
 use Rattle.fleet_book.specs.Records.{record_with}
 use Rattle.fleet_book.specs.StateParts.{StateParts}
 use Rattle.fleet_book.specs.States.{is_taken, own_jobs}
-use Rattle.fleet_poll.specs.Polls.{HasSameObjects, changed_record, failed, opened, waiting, poll_of, report_of}
+use Rattle.fleet_poll.specs.Polls.{HasSameObjects, changed_record, failed_record, opened_record, waiting_record, poll_of, report_of}
 use Rattle.fleet_poll.proofs.Records.{failed_are, freed_are, opened_are}
 use Rattle.fleet_poll.specs.declared.poll.Poll.{Poll}
 
@@ -46,7 +46,7 @@ abbrev reached : RunFlushes → Poll → VersionedManifest → Jobs → List (�
 reached flushes poll manifest jobs added dropped = record (poll_of flushes poll) { trees = trees_of flushes manifest.manifest.core; horizon = manifest.manifest.core.horizon; jobs = jobs; added = added; dropped = dropped }
 
 pub stale_freed : (flushes : RunFlushes) (input : PollInput) (poll : Poll) (state : StateParts) (freed : List ℕ) (timeout moment : ℕ) → input.options.timeout ≡ timeout → input.moment ≡ moment
-    → HasSameObjects poll.state state → own_jobs state ≡ map (changed_record waiting freed) (own_jobs poll.state) → freed ≡ ids (filter (is_stale timeout moment) (jobs_of (own_jobs poll.state)))
+    → HasSameObjects poll.state state → own_jobs state ≡ map (changed_record waiting_record freed) (own_jobs poll.state) → freed ≡ ids (filter (is_stale timeout moment) (jobs_of (own_jobs poll.state)))
     → poll_of flushes (record poll { state = state; freed = freed }) ≡ free_stale input (poll_of flushes poll)
 stale_freed flushes input poll state freed timeout moment late now same jobs stale =
     let before = jobs_of (own_jobs poll.state) in
@@ -160,21 +160,21 @@ kept_more drawn i d before after below is new stay id job found = by (d.0 == id)
     by false e = stay id e ∙ found
 
 -- The model's poll after a job failed, with the manifest and the records of a program.
-pub failed_in : (flushes : RunFlushes) (poll : Poll) (state : StateParts) (id other : ℕ) → other ≡ id → HasSameObjects poll.state state → own_jobs state ≡ map (changed_record failed (id ∷ [])) (own_jobs poll.state)
+pub failed_in : (flushes : RunFlushes) (poll : Poll) (state : StateParts) (id other : ℕ) → other ≡ id → HasSameObjects poll.state state → own_jobs state ≡ map (changed_record failed_record (id ∷ [])) (own_jobs poll.state)
     → poll_of flushes (record poll { state = state }) ≡ record (poll_of flushes poll) { jobs = changed_jobs to_failed (other ∷ []) (jobs_of (own_jobs poll.state)) }
 failed_in flushes poll state id other same objects jobs =
     ap (λ m. reached flushes poll m (jobs_of (own_jobs state)) (new_specs poll.added) poll.dropped) objects.manifest
     ∙ ap (λ js. reached flushes poll poll.state.manifest js (new_specs poll.added) poll.dropped) (ap jobs_of jobs ∙ failed_are (id ∷ []) (own_jobs poll.state) ∙ ap (λ i. changed_jobs to_failed (i ∷ []) (jobs_of (own_jobs poll.state))) (sym same))
 
 pub lost_in : (flushes : RunFlushes) (poll : Poll) (state : StateParts) (lost : List (ℕ × ℕ)) (id other rule : ℕ) → other ≡ id → HasSameObjects poll.state state
-    → own_jobs state ≡ map (changed_record failed (id ∷ [])) (own_jobs poll.state) → lost ≡ poll.lost ++ (id, rule) ∷ []
+    → own_jobs state ≡ map (changed_record failed_record (id ∷ [])) (own_jobs poll.state) → lost ≡ poll.lost ++ (id, rule) ∷ []
     → poll_of flushes (record poll { state = state; lost = lost }) ≡ record (poll_of flushes poll) { jobs = changed_jobs to_failed (other ∷ []) (jobs_of (own_jobs poll.state)); lost = poll.lost ++ (other, rule) ∷ [] }
 lost_in flushes poll state lost id other rule same objects jobs more =
     ap {A = PollState} {B = PollState} (λ p. record p { lost = lost }) (failed_in flushes poll state id other same objects jobs)
     ∙ ap (λ xs. record (poll_of flushes poll) { jobs = changed_jobs to_failed (other ∷ []) (jobs_of (own_jobs poll.state)); lost = xs }) (more ∙ ap (λ i. poll.lost ++ (i, rule) ∷ []) (sym same))
 
 pub refused_in : (flushes : RunFlushes) (poll : Poll) (state : StateParts) (refused : List (ℕ × ℕ)) (id other rule : ℕ) → other ≡ id → HasSameObjects poll.state state
-    → own_jobs state ≡ map (changed_record failed (id ∷ [])) (own_jobs poll.state) → refused ≡ poll.refused ++ (id, rule) ∷ []
+    → own_jobs state ≡ map (changed_record failed_record (id ∷ [])) (own_jobs poll.state) → refused ≡ poll.refused ++ (id, rule) ∷ []
     → poll_of flushes (record poll { state = state; refused = refused }) ≡ record (poll_of flushes poll) { jobs = changed_jobs to_failed (other ∷ []) (jobs_of (own_jobs poll.state)); refused = poll.refused ++ (other, rule) ∷ [] }
 refused_in flushes poll state refused id other rule same objects jobs more =
     ap {A = PollState} {B = PollState} (λ p. record p { refused = refused }) (failed_in flushes poll state id other same objects jobs)
@@ -182,7 +182,7 @@ refused_in flushes poll state refused id other rule same objects jobs more =
 
 -- After a job is opened, the poll has reached what the model's step leaves: the job waits, and is listed.
 pub scheduled_in : (flushes : RunFlushes) (poll : Poll) (state : StateParts) (made : List ℕ) (id other : ℕ) → other ≡ id → HasSameObjects poll.state state
-    → own_jobs state ≡ map (changed_record (opened (trees_of flushes poll.state.manifest.manifest.core)) (id ∷ [])) (own_jobs poll.state) → made ≡ poll.opened ++ id ∷ []
+    → own_jobs state ≡ map (changed_record (opened_record (trees_of flushes poll.state.manifest.manifest.core)) (id ∷ [])) (own_jobs poll.state) → made ≡ poll.opened ++ id ∷ []
     → poll_of flushes (record poll { state = state; opened = made }) ≡ record (poll_of flushes poll) {
       jobs = changed_jobs (to_scheduled (tables_now (trees_of flushes poll.state.manifest.manifest.core))) (other ∷ []) (jobs_of (own_jobs poll.state));
       opened = poll.opened ++ other ∷ [];

@@ -19,7 +19,7 @@ use Rattle.fleet_book.specs.StateParts.{StateParts}
 use Rattle.fleet_book.specs.States.{own_jobs}
 use Rattle.fleet_book.specs.Versions.{with_jobs}
 use Rattle.fleet_gates.proofs.HeldNodes.{contains_more}
-use Rattle.fleet_poll.specs.Polls.{HasSameObjects, changed_record, failed, opened, waiting}
+use Rattle.fleet_poll.specs.Polls.{HasSameObjects, changed_record, failed_record, opened_record, waiting_record}
 use Rattle.fleet_poll.proofs.Changed.{found_has_id}
 
 no_two : (b : Bool) → b ≡ true → b ≡ false → ⊥
@@ -91,47 +91,47 @@ put_changed change (first ∷ jobs) job freed rising found is = by (nat_lt first
 
 -- A job that is set to wait takes the place of its record.
 pub freed_job : (id : ℕ) (jobs : List JobParts) (job set freed : JobParts) → AreRising jobs → record_with id jobs ≡ Some job → set ≡ with_status own.Scheduled job → freed ≡ record set { worker = None }
-    → (freed.id ≡ id) × (put_record freed jobs ≡ map (changed_record waiting (id ∷ [])) jobs)
+    → (freed.id ≡ id) × (put_record freed jobs ≡ map (changed_record waiting_record (id ∷ [])) jobs)
 freed_job id jobs job set freed rising found is_set is_freed =
-    let is : freed ≡ waiting job = is_freed ∙ ap {A = JobParts} {B = JobParts} (λ s. record s { worker = None }) is_set in
+    let is : freed ≡ waiting_record job = is_freed ∙ ap {A = JobParts} {B = JobParts} (λ s. record s { worker = None }) is_set in
     let same : freed.id ≡ id = ap (λ j. j.id) is ∙ found_has_id id jobs job found in
     let there : record_with freed.id jobs ≡ Some job = ap (λ i. record_with i jobs) same ∙ found in
-    (same, put_changed waiting jobs job freed rising there is ∙ ap (λ i. map (changed_record waiting (i ∷ [])) jobs) same)
+    (same, put_changed waiting_record jobs job freed rising there is ∙ ap (λ i. map (changed_record waiting_record (i ∷ [])) jobs) same)
 
 -- ---- several jobs
 
-pub none_freed : (jobs : List JobParts) → jobs ≡ map (changed_record waiting []) jobs
+pub none_freed : (jobs : List JobParts) → jobs ≡ map (changed_record waiting_record []) jobs
 none_freed [] = refl
 none_freed (job ∷ jobs) = ap (λ js. job ∷ js) (none_freed jobs)
 
 -- To free these jobs and one more is to free them, and then the one.
-freed_once : (ids : List ℕ) (id : ℕ) (job : JobParts) → changed_record waiting (ids ++ id ∷ []) job ≡ changed_record waiting (id ∷ []) (changed_record waiting ids job)
-freed_once ids id job = ap (λ b. cond b (waiting job) job) (contains_more ids id job.id) ∙ by (contains ids job.id)
+freed_once : (ids : List ℕ) (id : ℕ) (job : JobParts) → changed_record waiting_record (ids ++ id ∷ []) job ≡ changed_record waiting_record (id ∷ []) (changed_record waiting_record ids job)
+freed_once ids id job = ap (λ b. cond b (waiting_record job) job) (contains_more ids id job.id) ∙ by (contains ids job.id)
   where
-    again : (b : Bool) → waiting job ≡ cond (cond b true false) (waiting (waiting job)) (waiting job)
+    again : (b : Bool) → waiting_record job ≡ cond (cond b true false) (waiting_record (waiting_record job)) (waiting_record job)
     again true = refl
     again false = refl
 
-    first : (b : Bool) → cond b (waiting job) job ≡ cond (cond b true false) (waiting job) job
+    first : (b : Bool) → cond b (waiting_record job) job ≡ cond (cond b true false) (waiting_record job) job
     first true = refl
     first false = refl
 
-    by : (a : Bool) → cond (a || (id == job.id)) (waiting job) job ≡ cond (cond (id == (cond a (waiting job) job).id) true false) (waiting (cond a (waiting job) job)) (cond a (waiting job) job)
+    by : (a : Bool) → cond (a || (id == job.id)) (waiting_record job) job ≡ cond (cond (id == (cond a (waiting_record job) job).id) true false) (waiting_record (cond a (waiting_record job) job)) (cond a (waiting_record job) job)
     by true = again (id == job.id)
     by false = first (id == job.id)
 
-freed_one_more : (ids : List ℕ) (id : ℕ) (jobs : List JobParts) → map (changed_record waiting (ids ++ id ∷ [])) jobs ≡ map (changed_record waiting (id ∷ [])) (map (changed_record waiting ids) jobs)
+freed_one_more : (ids : List ℕ) (id : ℕ) (jobs : List JobParts) → map (changed_record waiting_record (ids ++ id ∷ [])) jobs ≡ map (changed_record waiting_record (id ∷ [])) (map (changed_record waiting_record ids) jobs)
 freed_one_more ids id [] = refl
 freed_one_more ids id (job ∷ jobs) =
-    ap (λ j. j ∷ map (changed_record waiting (ids ++ id ∷ [])) jobs) (freed_once ids id job) ∙ ap (λ js. changed_record waiting (id ∷ []) (changed_record waiting ids job) ∷ js) (freed_one_more ids id jobs)
+    ap (λ j. j ∷ map (changed_record waiting_record (ids ++ id ∷ [])) jobs) (freed_once ids id job) ∙ ap (λ js. changed_record waiting_record (id ∷ []) (changed_record waiting_record ids job) ∷ js) (freed_one_more ids id jobs)
 
-pub freed_more : (ids : List ℕ) (i id : ℕ) (before now after : List JobParts) → i < length ids → id ≡ get_or ids i id → now ≡ map (changed_record waiting (take i ids)) before → after ≡ map (changed_record waiting (id ∷ [])) now
-    → after ≡ map (changed_record waiting (take (i + 1) ids)) before
+pub freed_more : (ids : List ℕ) (i id : ℕ) (before now after : List JobParts) → i < length ids → id ≡ get_or ids i id → now ≡ map (changed_record waiting_record (take i ids)) before → after ≡ map (changed_record waiting_record (id ∷ [])) now
+    → after ≡ map (changed_record waiting_record (take (i + 1) ids)) before
 freed_more ids i id before now after below is so more =
     more
-    ∙ ap (map (changed_record waiting (id ∷ []))) so
+    ∙ ap (map (changed_record waiting_record (id ∷ []))) so
     ∙ sym (freed_one_more (take i ids) id before)
-    ∙ sym (ap (λ these. map (changed_record waiting these) before) (take_more ids i id below ∙ ap (λ y. take i ids ++ y ∷ []) (sym is)))
+    ∙ sym (ap (λ these. map (changed_record waiting_record these) before) (take_more ids i id below ∙ ap (λ y. take i ids ++ y ∷ []) (sym is)))
 
 -- ---- in the model
 
@@ -151,26 +151,26 @@ changed_are change model these (job ∷ jobs) same =
     ∙ ap (λ js. cond (contains these job.id) (model (job_of job)) (job_of job) ∷ js) (changed_are change model these jobs same)
 
 -- The jobs that wait are the model's.
-pub freed_are : (these : List ℕ) (jobs : List JobParts) → jobs_of (map (changed_record waiting these) jobs) ≡ changed_jobs to_waiting these (jobs_of jobs)
-freed_are these jobs = changed_are waiting to_waiting these jobs (λ job. refl)
+pub freed_are : (these : List ℕ) (jobs : List JobParts) → jobs_of (map (changed_record waiting_record these) jobs) ≡ changed_jobs to_waiting these (jobs_of jobs)
+freed_are these jobs = changed_are waiting_record to_waiting these jobs (λ job. refl)
 
 -- The jobs that failed are the model's.
-pub failed_are : (these : List ℕ) (jobs : List JobParts) → jobs_of (map (changed_record failed these) jobs) ≡ changed_jobs to_failed these (jobs_of jobs)
-failed_are these jobs = changed_are failed to_failed these jobs (λ job. refl)
+pub failed_are : (these : List ℕ) (jobs : List JobParts) → jobs_of (map (changed_record failed_record these) jobs) ≡ changed_jobs to_failed these (jobs_of jobs)
+failed_are these jobs = changed_are failed_record to_failed these jobs (λ job. refl)
 
 -- A job that is set Failed takes the place of its record.
 pub failed_job : (id : ℕ) (old new : StateParts) → AreRising (own_jobs old) → IsSome (record_with id (own_jobs old))
-    → IfSome (record_with id (own_jobs old)) (λ job. new ≡ record old { compactions = with_jobs (put_record (failed job) (own_jobs old)) old.compactions })
-    → (own_jobs new ≡ map (changed_record failed (id ∷ [])) (own_jobs old)) × HasSameObjects old new
+    → IfSome (record_with id (own_jobs old)) (λ job. new ≡ record old { compactions = with_jobs (put_record (failed_record job) (own_jobs old)) old.compactions })
+    → (own_jobs new ≡ map (changed_record failed_record (id ∷ [])) (own_jobs old)) × HasSameObjects old new
 failed_job id old new rising some set = by (record_with id (own_jobs old)) refl some set
   where
-    by : (found : Option JobParts) → record_with id (own_jobs old) ≡ found → IsSome found → IfSome found (λ job. new ≡ record old { compactions = with_jobs (put_record (failed job) (own_jobs old)) old.compactions })
-        → (own_jobs new ≡ map (changed_record failed (id ∷ [])) (own_jobs old)) × HasSameObjects old new
+    by : (found : Option JobParts) → record_with id (own_jobs old) ≡ found → IsSome found → IfSome found (λ job. new ≡ record old { compactions = with_jobs (put_record (failed_record job) (own_jobs old)) old.compactions })
+        → (own_jobs new ≡ map (changed_record failed_record (id ∷ [])) (own_jobs old)) × HasSameObjects old new
     by None e there is = absurd (cc there)
     by (Some job) e there is =
         let same : job.id ≡ id = found_has_id id (own_jobs old) job e in
         let found : record_with job.id (own_jobs old) ≡ Some job = ap (λ i. record_with i (own_jobs old)) same ∙ e in (
-          ap own_jobs is ∙ put_changed failed (own_jobs old) job (failed job) rising found refl ∙ ap (λ i. map (changed_record failed (i ∷ [])) (own_jobs old)) same,
+          ap own_jobs is ∙ put_changed failed_record (own_jobs old) job (failed_record job) rising found refl ∙ ap (λ i. map (changed_record failed_record (i ∷ [])) (own_jobs old)) same,
           record { manifest = ap (λ s. s.manifest) is; version = ap (λ s. s.compactions.id) is; epoch = ap (λ s. s.compactions.compactions.compactor_epoch) is },
         )
 
@@ -180,11 +180,11 @@ none_if (Some x) e = absurd (cc e)
 
 -- ---- jobs that are opened
 
-pub opened_are : (trees : Trees) (these : List ℕ) (jobs : List JobParts) → jobs_of (map (changed_record (opened trees) these) jobs) ≡ changed_jobs (to_scheduled (tables_now trees)) these (jobs_of jobs)
-opened_are trees these jobs = changed_are (opened trees) (to_scheduled (tables_now trees)) these jobs (λ job. refl)
+pub opened_are : (trees : Trees) (these : List ℕ) (jobs : List JobParts) → jobs_of (map (changed_record (opened_record trees) these) jobs) ≡ changed_jobs (to_scheduled (tables_now trees)) these (jobs_of jobs)
+opened_are trees these jobs = changed_are (opened_record trees) (to_scheduled (tables_now trees)) these jobs (λ job. refl)
 
 pub opened_is : (trees : Trees) (job made set tabled last : JobParts) (spec : CompactionSpec) (tables : List ℕ) → made ≡ job → set ≡ with_status own.Scheduled made
-    → tables ≡ tables_now trees (spec_of spec) → spec ≡ job.spec → tabled ≡ record set { source_tables = tables } → last ≡ record tabled { ctx = None } → last ≡ opened trees job
+    → tables ≡ tables_now trees (spec_of spec) → spec ≡ job.spec → tabled ≡ record set { source_tables = tables } → last ≡ record tabled { ctx = None } → last ≡ opened_record trees job
 opened_is trees job made set tabled last spec tables is_made is_set is_tables is_spec is_tabled is_last =
     is_last
     ∙ ap {A = JobParts} {B = JobParts} (λ t. record t { ctx = None }) is_tabled
@@ -192,9 +192,9 @@ opened_is trees job made set tabled last spec tables is_made is_set is_tables is
     ∙ ap {A = List ℕ} {B = JobParts} (λ ids. record (with_status own.Scheduled job) { source_tables = ids; ctx = None }) (is_tables ∙ ap (λ s. tables_now trees (spec_of s)) is_spec)
 
 -- A job that is opened takes the place of its record.
-pub opened_job : (trees : Trees) (id : ℕ) (jobs : List JobParts) (job made : JobParts) → AreRising jobs → record_with id jobs ≡ Some job → made ≡ opened trees job
-    → (made.id ≡ id) × (put_record made jobs ≡ map (changed_record (opened trees) (id ∷ [])) jobs)
+pub opened_job : (trees : Trees) (id : ℕ) (jobs : List JobParts) (job made : JobParts) → AreRising jobs → record_with id jobs ≡ Some job → made ≡ opened_record trees job
+    → (made.id ≡ id) × (put_record made jobs ≡ map (changed_record (opened_record trees) (id ∷ [])) jobs)
 opened_job trees id jobs job made rising found is =
     let same : made.id ≡ id = ap (λ j. j.id) is ∙ found_has_id id jobs job found in
     let there : record_with made.id jobs ≡ Some job = ap (λ i. record_with i jobs) same ∙ found in
-    (same, put_changed (opened trees) jobs job made rising there is ∙ ap (λ i. map (changed_record (opened trees) (i ∷ [])) jobs) same)
+    (same, put_changed (opened_record trees) jobs job made rising there is ∙ ap (λ i. map (changed_record (opened_record trees) (i ∷ [])) jobs) same)

@@ -54,12 +54,12 @@ pub record MayCommit (scheduler : Scheduler) (jobs : List JobParts) (poll : Poll
   pub stand : CommitsStand input (jobs_of jobs) (poll_of flushes poll)
 
 -- The step for the job with this id leaves the records of all other jobs as they are.
-abbrev pub OthersStay : ℕ → StateParts → StateParts → Type 0
+abbrev pub OthersStay : (id : ℕ) (old new : StateParts) → Type 0
 OthersStay id old new =
     (other : ℕ) → (id == other) ≡ false → record_with other (own_jobs new) ≡ record_with other (own_jobs old)
 
 -- What an input says of the state before a step, it says of the state after it.
-abbrev pub StillSees : StateParts → StateParts → Type 0
+abbrev pub StillSees : (old new : StateParts) → Type 0
 StillSees old new = (input : PollInput) (scheduler : Scheduler) → Sees input scheduler old → Sees input scheduler new
 
 -- True if the job is Submitted.

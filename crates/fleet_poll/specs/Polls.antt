@@ -39,16 +39,16 @@ poll_of flushes poll = record {
 }
 
 -- The record of a job that waits for a worker again.
-abbrev pub waiting : JobParts → JobParts
-waiting job = record (with_status own.Scheduled job) { worker = None }
+abbrev pub waiting_record : JobParts → JobParts
+waiting_record job = record (with_status own.Scheduled job) { worker = None }
 
 -- The record of a job that failed.
-abbrev pub failed : JobParts → JobParts
-failed job = with_status own.Failed job
+abbrev pub failed_record : JobParts → JobParts
+failed_record job = with_status own.Failed job
 
 -- The record of a job that was opened on these trees.
-abbrev pub opened : Trees → JobParts → JobParts
-opened trees job = record (with_status own.Scheduled job) {
+abbrev pub opened_record : Trees → JobParts → JobParts
+opened_record trees job = record (with_status own.Scheduled job) {
   source_tables = tables_now trees (spec_of job.spec);
   ctx = None;
 }

@@ -24,35 +24,35 @@ use Rattle.fleet_poll.specs.Made.{PrefixesRise, own_core}
 
 -- The handle describes the rows of the table with its id, which was put. The table's first key is not above its last
 -- one.
-pub record IsTold (tables : Tables) (handle : SsTableHandle) : Type 0 where
+pub record MatchesTable (tables : Tables) (handle : SsTableHandle) : Type 0 where
   pub put : IsTrue (is_among tables handle.id)
   pub describes : handle_of handle ≡ describe handle.id (table_rows tables handle.id)
   pub rising : is_le (key_cmp handle.first_key handle.last_key) ≡ true
 
--- Each handle is as `IsTold` says.
-abbrev pub AreTold : Tables → List SsTableHandle → Type 0
-AreTold tables handles = AllByRecursion (IsTold tables) handles
+-- Each handle is as `MatchesTable` says.
+abbrev pub MatchTables : Tables → List SsTableHandle → Type 0
+MatchTables tables handles = AllByRecursion (MatchesTable tables) handles
 
--- A table is named by its own id, and its handle is as `IsTold` says.
-pub record ViewTold (tables : Tables) (view : View) : Type 0 where
+-- A table is named by its own id, and its handle is as `MatchesTable` says.
+pub record ViewMatches (tables : Tables) (view : View) : Type 0 where
   pub identity : view.id ≡ view.sst.id
-  pub handle : IsTold tables view.sst
+  pub handle : MatchesTable tables view.sst
 
--- Each view is as `ViewTold` says.
-abbrev pub ViewsTold : Tables → List View → Type 0
-ViewsTold tables views = AllByRecursion (ViewTold tables) views
+-- Each view is as `ViewMatches` says.
+abbrev pub ViewsMatch : Tables → List View → Type 0
+ViewsMatch tables views = AllByRecursion (ViewMatches tables) views
 
 -- The tables of a tree, as it names them.
 abbrev pub views_of : LsmTreeState → List View
 views_of tree = tree.l0 ++ flat_map (λ run. run.views) tree.compacted
 
--- The tables of all trees are as `ViewTold` says.
-abbrev pub TreesTold : Tables → ManifestCore → Type 0
-TreesTold tables core = AllByRecursion (λ s. ViewsTold tables (views_of s.1)) (trees_with_prefix core)
+-- The tables of all trees are as `ViewMatches` says.
+abbrev pub TreesMatch : Tables → ManifestCore → Type 0
+TreesMatch tables core = AllByRecursion (λ s. ViewsMatch tables (views_of s.1)) (trees_with_prefix core)
 
--- The handles of all tables that jobs name are as `IsTold` says.
-abbrev pub JobsTold : Tables → List JobParts → Type 0
-JobsTold tables jobs = AllByRecursion (λ job. AreTold tables (job_handles job)) jobs
+-- The handles of all tables that jobs name are as `MatchesTable` says.
+abbrev pub JobsMatch : Tables → List JobParts → Type 0
+JobsMatch tables jobs = AllByRecursion (λ job. MatchTables tables (job_handles job)) jobs
 
 -- The manifest without its trees and its horizon, which are what a poll changes.
 abbrev pub without_trees : Manifest → Manifest
@@ -71,5 +71,5 @@ pub record Sees (input : PollInput) (scheduler : Scheduler) (state : StateParts)
   pub version : input.records.version ≡ state.compactions.id
   pub epoch : input.records.epoch ≡ state.compactions.compactions.compactor_epoch
   pub prefixes : PrefixesRise (own_core state)
-  pub trees : TreesTold input.tables (own_core state)
-  pub jobs : JobsTold input.tables (own_jobs state)
+  pub trees : TreesMatch input.tables (own_core state)
+  pub jobs : JobsMatch input.tables (own_jobs state)

@@ -16,8 +16,8 @@ use Rattle.fleet_gates.specs.Shown.{accepted_on}
 use Rattle.fleet_poll.specs.Made.{own_core}
 
 -- The view that a coordinator with this state shows: the manifest, and the jobs that are not over.
-abbrev pub shown : StateParts → CompactorStateView
-shown state = record {
+abbrev pub open_view : StateParts → CompactorStateView
+open_view state = record {
   manifest = state.manifest;
   compactions = Some (with_jobs (filter is_open (own_jobs state)) state.compactions);
 }
@@ -27,9 +27,9 @@ abbrev pub rule_of_gate : PollInput → Job → PollState → Option ℕ
 rule_of_gate input job p = submit_gate p.trees p.jobs (lost_to_scheduler p.lost) (accepts input p) job
 
 -- What the model's gate for commits says of a job in this state, if it is asked by this scheduler.
-abbrev pub commit_rule : RunFlushes → Scheduler → StateParts → JobParts → Option ℕ
+abbrev pub commit_rule : (flushes : RunFlushes) (scheduler : Scheduler) (state : StateParts) (job : JobParts) → Option ℕ
 commit_rule flushes scheduler state job =
-    commit_gate (trees_of flushes (own_core state)) (accepted_on flushes (shown state) scheduler) (job_of job)
+    commit_gate (trees_of flushes (own_core state)) (accepted_on flushes (open_view state) scheduler) (job_of job)
 
 -- The job passes the gate for commits in this state, whichever flushes went into runs.
 abbrev pub PassesCommit : Scheduler → StateParts → JobParts → Type 0

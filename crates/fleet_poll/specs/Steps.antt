@@ -19,7 +19,7 @@ freed_unless commits_only input p = if commits_only then p else free_stale input
 abbrev pub opened_unless : (commits_only : Bool) → PollInput → List (ℕ × JobSpec) → PollState → PollState
 opened_unless commits_only input drawn p = if commits_only then p else open_submitted input (add_drawn 1 drawn p)
 
--- The input has the options by which stale jobs are told, and the moment.
+-- The input has the options by which stale jobs are found, and the moment.
 pub record SeesStale (input : PollInput) (options : CompactorOptions) (moment : ℕ) : Type 0 where
   pub timeout : input.options.timeout ≡ options.worker_heartbeat_timeout_ms
   pub moment_is : input.moment ≡ moment

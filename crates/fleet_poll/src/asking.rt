@@ -4,9 +4,9 @@ ghost use Rattle.std.specs.Prelude.{◌≡◌, map, IfOk, IsOkUnless, None};
 ghost use Rattle.fleet_tree.specs.Trees.{RunFlushes};
 ghost use Rattle.fleet_jobs.specs.Specs.{spec_of};
 ghost use Rattle.fleet_sched.specs.Views.{view_of};
-ghost use Rattle.fleet_gates.specs.Rules.{asked_last, numbered};
+ghost use Rattle.fleet_gates.specs.Rules.{asked_last, rule_number};
 ghost use Rattle.fleet_gates.specs.Shown.{accepted_on};
-ghost use Rattle.fleet_poll.specs.Shown.{shown};
+ghost use Rattle.fleet_poll.specs.Shown.{open_view};
 
 use fleet_book::{CompactionSpec, CompactorState};
 use fleet_gates::{Rule, scheduler_rule};
@@ -22,8 +22,9 @@ pub(crate) fn rule_of_scheduler(
     state: &CompactorState,
     spec: &CompactionSpec,
 ) -> Result<Option<Rule>, SlateDBError>
-    ensures rule { (flushes : RunFlushes) → IfOk result (λ rule. numbered rule ≡ asked_last
-        (accepted_on flushes (shown state.now) (answers scheduler.now) (spec_of spec.now)) None) }
+    ensures rule { (flushes : RunFlushes) → IfOk result (λ rule. rule_number rule ≡ asked_last
+        (accepted_on flushes (open_view state.now) (answers scheduler.now)
+        (spec_of spec.now)) None) }
     ensures memory { IsOkUnless result SlateDBError.Memory }
 {
     let view = state.view(alloc)?;
@@ -37,7 +38,7 @@ pub(crate) fn all_proposals(
     state: &CompactorState,
 ) -> Result<Vec<CompactionSpec>, SlateDBError>
     ensures specs { (flushes : RunFlushes) → IfOk result (λ specs. map spec_of specs.items
-        ≡ (answers scheduler.now).propose (view_of flushes (shown state.now))) }
+        ≡ (answers scheduler.now).propose (view_of flushes (open_view state.now))) }
     ensures memory { IsOkUnless result SlateDBError.Memory }
 {
     let view = state.view(alloc)?;

@@ -15,10 +15,10 @@ ghost use Rattle.fleet_jobs.specs.Taken.{taken_tables};
 ghost use Rattle.fleet_book.specs.Records.{record_with};
 ghost use Rattle.fleet_book.specs.States.{own_jobs};
 ghost use Rattle.fleet_gates.specs.Held.{Decides};
-ghost use Rattle.fleet_gates.specs.Rules.{numbered};
+ghost use Rattle.fleet_gates.specs.Rules.{rule_number};
 ghost use Rattle.fleet_gates.specs.Shown.{accepted_on};
 ghost use Rattle.fleet_poll.specs.Made.{PrefixesRise, flushes_opened, own_core};
-ghost use Rattle.fleet_poll.specs.Shown.{rule_of_gate, shown};
+ghost use Rattle.fleet_poll.specs.Shown.{open_view, rule_of_gate};
 ghost use Rattle.fleet_poll.specs.Polls.{poll_of};
 ghost use Rattle.fleet_poll.specs.Loops.{IsDecision};
 
@@ -53,7 +53,7 @@ impl Poll {
             → input.options.moves ≡ options.now.enable_trivial_move
             → OnOk result (IfSome (record_with job (own_jobs self.old.state)) (λ made.
             accepts input (poll_of flushes self.old) (spec_of made.spec)
-            ≡ accepted_on flushes (shown self.old.state) (answers scheduler.now)
+            ≡ accepted_on flushes (open_view self.old.state) (answers scheduler.now)
             (spec_of made.spec)
             → AllByRecursion (EndsFit input.tables)
             (taken_tables made.spec (own_core self.old.state))
@@ -80,8 +80,8 @@ fn failed_rule(
     ensures rule { (flushes : RunFlushes) (jobs : Jobs) (lost : List ℕ)
         → IfOk result (λ failed. IfSome (record_with id (own_jobs state.now)) (λ job.
         Decides held.now jobs lost (job_of job)
-        → numbered failed ≡ submit_gate (trees_of flushes (own_core state.now)) jobs lost
-        (accepted_on flushes (shown state.now) (answers scheduler.now)) (job_of job))) }
+        → rule_number failed ≡ submit_gate (trees_of flushes (own_core state.now)) jobs lost
+        (accepted_on flushes (open_view state.now) (answers scheduler.now)) (job_of job))) }
     ensures memory { IsOkUnless result SlateDBError.Memory }
 {
     match state.compactions().compactions().get(&id) {
@@ -101,9 +101,9 @@ fn submit_rule(
 ) -> Result<Option<Rule>, SlateDBError>
     ensures rule { (flushes : RunFlushes) (jobs : Jobs) (lost : List ℕ)
         → Decides held.now jobs lost (job_of job.now)
-        → IfOk result (λ failed. numbered failed
+        → IfOk result (λ failed. rule_number failed
         ≡ submit_gate (trees_of flushes (own_core state.now)) jobs lost
-        (accepted_on flushes (shown state.now) (answers scheduler.now)) (job_of job.now)) }
+        (accepted_on flushes (open_view state.now) (answers scheduler.now)) (job_of job.now)) }
     ensures memory { IsOkUnless result SlateDBError.Memory }
 {
     match submit_rules(alloc, state.manifest().core(), held, job)? {

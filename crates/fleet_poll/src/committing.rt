@@ -9,7 +9,7 @@ ghost use Rattle.fleet_tree.specs.Trees.{RunFlushes};
 ghost use Rattle.fleet_jobs.specs.Jobs.{job_ids, job_of};
 ghost use Rattle.fleet_book.specs.Records.{record_with};
 ghost use Rattle.fleet_book.specs.States.{own_jobs};
-ghost use Rattle.fleet_gates.specs.Rules.{numbered};
+ghost use Rattle.fleet_gates.specs.Rules.{rule_number};
 ghost use Rattle.fleet_poll.specs.Made.{flushes_committed, own_core};
 ghost use Rattle.fleet_poll.specs.Polls.{poll_of};
 ghost use Rattle.fleet_poll.specs.Shown.{PassesCommit, commit_rule};
@@ -92,7 +92,7 @@ fn failed_rule(
 ) -> Result<Option<Rule>, SlateDBError>
     ensures rule { (flushes : RunFlushes)
         → IfOk result (λ failed. IfSome (record_with id (own_jobs state.now)) (λ job.
-        numbered failed ≡ commit_rule flushes (answers scheduler.now) state.now job)) }
+        rule_number failed ≡ commit_rule flushes (answers scheduler.now) state.now job)) }
     ensures memory { IsOkUnless result SlateDBError.Memory }
 {
     match state.compactions().compactions().get(&id) {
@@ -109,7 +109,7 @@ fn commit_rule(
     state: &CompactorState,
     job: &Compaction,
 ) -> Result<Option<Rule>, SlateDBError>
-    ensures rule { (flushes : RunFlushes) → IfOk result (λ failed. numbered failed
+    ensures rule { (flushes : RunFlushes) → IfOk result (λ failed. rule_number failed
         ≡ commit_rule flushes (answers scheduler.now) state.now job.now) }
     ensures memory { IsOkUnless result SlateDBError.Memory }
 {

@@ -8,7 +8,7 @@ ghost use Rattle.fleet_tree.specs.Trees.{RunFlushes};
 ghost use Rattle.fleet_book.specs.Records.{record_with};
 ghost use Rattle.fleet_book.specs.States.{own_jobs};
 ghost use Rattle.fleet_gates.specs.Rules.{number_of};
-ghost use Rattle.fleet_poll.specs.Polls.{HasSameObjects, changed_record, failed, poll_of};
+ghost use Rattle.fleet_poll.specs.Polls.{HasSameObjects, changed_record, failed_record, poll_of};
 
 use crate::Poll;
 use crate::freeing::know_rising;
@@ -23,7 +23,7 @@ impl Poll {
             → OnOk result (poll_of flushes self.new
             ≡ commit_by input lost (Some (number_of rule)) (poll_of flushes self.old)) }
         ensures jobs { OnOk result (own_jobs self.new.state
-            ≡ map (changed_record failed (job ∷ [])) (own_jobs self.old.state)) }
+            ≡ map (changed_record failed_record (job ∷ [])) (own_jobs self.old.state)) }
         ensures lost { OnOk result
             (self.new.lost ≡ self.old.lost ++ (job, number_of rule) ∷ []) }
         ensures same { OnOk result (HasSameObjects self.old.state self.new.state) }
@@ -42,7 +42,7 @@ impl Poll {
             → OnOk result (poll_of flushes self.new
             ≡ open_by input refused (Some (number_of rule)) (poll_of flushes self.old)) }
         ensures jobs { OnOk result (own_jobs self.new.state
-            ≡ map (changed_record failed (job ∷ [])) (own_jobs self.old.state)) }
+            ≡ map (changed_record failed_record (job ∷ [])) (own_jobs self.old.state)) }
         ensures lost { OnOk result (self.new.lost ≡ self.old.lost) }
         ensures same { OnOk result (HasSameObjects self.old.state self.new.state) }
         ensures err { OnErr result (self.new ≡ self.old) }
@@ -57,7 +57,7 @@ impl Poll {
 // Makes the job Failed, if it is there.
 fn fail_job(state: &mut CompactorState, id: Ulid)
     ensures jobs { own_jobs state.new
-        ≡ map (changed_record failed (id ∷ [])) (own_jobs state.old) }
+        ≡ map (changed_record failed_record (id ∷ [])) (own_jobs state.old) }
     ensures same { HasSameObjects state.old state.new }
 {
     know_rising(state.compactions());

@@ -11,7 +11,7 @@ ghost use Rattle.fleet_jobs.specs.Jobs.{job_of, jobs_of};
 ghost use Rattle.fleet_jobs.specs.Workers.{lease_of};
 ghost use Rattle.fleet_book.specs.Records.{AreRising};
 ghost use Rattle.fleet_book.specs.States.{own_jobs};
-ghost use Rattle.fleet_poll.specs.Polls.{HasSameObjects, changed_record, poll_of, waiting};
+ghost use Rattle.fleet_poll.specs.Polls.{HasSameObjects, changed_record, poll_of, waiting_record};
 
 use crate::Poll;
 use fleet_book::{Compaction, CompactionStatus, CompactorState, VersionedCompactions, WorkerSpec};
@@ -33,7 +33,7 @@ impl Poll {
             → input.moment ≡ moment
             → OnOk result (poll_of flushes self.new ≡ free_stale input (poll_of flushes self.old)) }
         ensures jobs { OnOk result (own_jobs self.new.state
-            ≡ map (changed_record waiting self.new.freed) (own_jobs self.old.state)) }
+            ≡ map (changed_record waiting_record self.new.freed) (own_jobs self.old.state)) }
         ensures same { OnOk result (HasSameObjects self.old.state self.new.state) }
         ensures lost { OnOk result (self.new.lost ≡ self.old.lost) }
         ensures memory { IsOkUnless result SlateDBError.Memory }
@@ -101,7 +101,7 @@ fn is_overdue(worker: Option<&WorkerSpec>, timeout: u64, moment: u64) -> bool
 // Makes these jobs wait for a worker.
 fn free_jobs(state: &mut CompactorState, jobs: &[Ulid]) -> Result<(), SlateDBError>
     ensures jobs { OnOk result
-        (own_jobs state.new ≡ map (changed_record waiting jobs.now) (own_jobs state.old)) }
+        (own_jobs state.new ≡ map (changed_record waiting_record jobs.now) (own_jobs state.old)) }
     ensures same { OnOk result (HasSameObjects state.old state.new) }
     ensures memory { IsOkUnless result SlateDBError.Memory }
 {
@@ -114,7 +114,7 @@ fn free_jobs(state: &mut CompactorState, jobs: &[Ulid]) -> Result<(), SlateDBErr
 // Makes the job wait for a worker, if it is there.
 fn free_job(state: &mut CompactorState, id: Ulid) -> Result<(), SlateDBError>
     ensures jobs { OnOk result
-        (own_jobs state.new ≡ map (changed_record waiting (id ∷ [])) (own_jobs state.old)) }
+        (own_jobs state.new ≡ map (changed_record waiting_record (id ∷ [])) (own_jobs state.old)) }
     ensures same { OnOk result (HasSameObjects state.old state.new) }
     ensures memory { IsOkUnless result SlateDBError.Memory }
 {

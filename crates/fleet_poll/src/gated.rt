@@ -14,7 +14,7 @@ ghost use Rattle.fleet_jobs.specs.Specs.{destination_of};
 ghost use Rattle.fleet_jobs.specs.Taken.{taken_tables};
 ghost use Rattle.fleet_book.specs.Records.{record_with};
 ghost use Rattle.fleet_book.specs.States.{own_jobs};
-ghost use Rattle.fleet_gates.specs.Rules.{numbered};
+ghost use Rattle.fleet_gates.specs.Rules.{rule_number};
 ghost use Rattle.fleet_poll.specs.Made.{EndsRise, PrefixesRise, flushes_committed, flushes_opened, is_drain_if_there, own_core, written_tables};
 ghost use Rattle.fleet_poll.specs.Polls.{poll_of};
 ghost use Rattle.fleet_poll.specs.Loops.{IsDecision, LostAreOver, OthersStay, StillSees};
@@ -49,9 +49,9 @@ impl Poll {
             → PrefixesRise (own_core self.old.state)
             → input.manifest.floor ≡ (own_core self.old.state).recent_snapshot_min_seq
             → OnOk result (IfSome (record_with job (own_jobs self.old.state)) (λ joined.
-            poll_of (flushes_committed (numbered failed) joined (own_core self.old.state) flushes)
+            poll_of (flushes_committed (rule_number failed) joined (own_core self.old.state) flushes)
             self.new
-            ≡ commit_by input (job_of joined) (numbered failed) (poll_of flushes self.old))) }
+            ≡ commit_by input (job_of joined) (rule_number failed) (poll_of flushes self.old))) }
         ensures others { OnOk result (OthersStay job self.old.state self.new.state) }
         ensures sees { OnOk result (StillSees self.old.state self.new.state) }
         ensures lost { OnOk result (LostAreOver self.old → LostAreOver self.new) }
@@ -83,9 +83,9 @@ impl Poll {
             → OnOk result (IfSome (record_with job (own_jobs self.old.state)) (λ made.
             AllByRecursion (EndsFit input.tables)
             (taken_tables made.spec (own_core self.old.state))
-            → poll_of (flushes_opened (numbered failed) options.now.enable_trivial_move made
+            → poll_of (flushes_opened (rule_number failed) options.now.enable_trivial_move made
             (own_core self.old.state) flushes) self.new
-            ≡ open_by input (job_of made) (numbered failed) (poll_of flushes self.old))) }
+            ≡ open_by input (job_of made) (rule_number failed) (poll_of flushes self.old))) }
         ensures decision { OnOk result (IsDecision job self.old self.new) }
         ensures memory { IsOkUnless result SlateDBError.Memory }
     {

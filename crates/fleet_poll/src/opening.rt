@@ -5,7 +5,7 @@ ghost use Rattle.fleet_model.specs.Jobs.{Job};
 ghost use Rattle.fleet_model.specs.Work.Polls.{schedule_job};
 ghost use Rattle.fleet_tree.specs.Trees.{RunFlushes, trees_of};
 ghost use Rattle.fleet_book.specs.States.{own_jobs};
-ghost use Rattle.fleet_poll.specs.Polls.{HasSameObjects, changed_record, opened, poll_of};
+ghost use Rattle.fleet_poll.specs.Polls.{HasSameObjects, changed_record, opened_record, poll_of};
 
 use crate::Poll;
 use crate::freeing::know_rising;
@@ -24,7 +24,7 @@ impl Poll {
             (poll_of flushes self.new ≡ schedule_job made (poll_of flushes self.old)) }
         ensures jobs { (flushes : RunFlushes) → OnOk result (own_jobs self.new.state
             ≡ map (changed_record
-            (opened (trees_of flushes self.old.state.manifest.manifest.core)) (job ∷ []))
+            (opened_record (trees_of flushes self.old.state.manifest.manifest.core)) (job ∷ []))
             (own_jobs self.old.state)) }
         ensures lost { OnOk result (self.new.lost ≡ self.old.lost) }
         ensures same { OnOk result (HasSameObjects self.old.state self.new.state) }
@@ -39,7 +39,7 @@ impl Poll {
 fn open_job(alloc: Global, state: &mut CompactorState, id: Ulid) -> Result<(), SlateDBError>
     ensures jobs { (flushes : RunFlushes) → OnOk result (own_jobs state.new
         ≡ map
-        (changed_record (opened (trees_of flushes state.old.manifest.manifest.core)) (id ∷ []))
+        (changed_record (opened_record (trees_of flushes state.old.manifest.manifest.core)) (id ∷ []))
         (own_jobs state.old)) }
     ensures same { OnOk result (HasSameObjects state.old state.new) }
     ensures memory { IsOkUnless result SlateDBError.Memory }
@@ -56,7 +56,7 @@ fn open_job(alloc: Global, state: &mut CompactorState, id: Ulid) -> Result<(), S
 // A copy of the job that waits for a worker, with the tables that its sources have now.
 fn opened(alloc: Global, job: &Compaction, core: &ManifestCore) -> Result<Compaction, SlateDBError>
     ensures job { (flushes : RunFlushes)
-        → IfOk result (λ made. made ≡ opened (trees_of flushes core.now) job.now) }
+        → IfOk result (λ made. made ≡ opened_record (trees_of flushes core.now) job.now) }
     ensures memory { IsOkUnless result SlateDBError.Memory }
 {
     let tables = source_tables(alloc, core, job.spec())?;

@@ -49,10 +49,10 @@ module _ {K : Type 0} (R : K → K → Ordering) where
   if_non_empty ends = if is_non_empty ends then Some ends else None
 
   -- The greater start and the lesser end of two ranges. These bounds may leave no room.
-  abbrev pub overlap : Ends K → Ends K → Ends K
+  abbrev pub overlap : (a b : Ends K) → Ends K
   overlap a b = (ord_max (start_cmp R) a.0 b.0, ord_min (end_cmp R) a.1 b.1)
 
-  abbrev pub intersection : Ends K → Ends K → Option (Ends K)
+  abbrev pub intersection : (a b : Ends K) → Option (Ends K)
   intersection a b = if_non_empty (overlap a b)
 
   -- Whether a range with this start begins exactly where a range with this end stops. Both bounds are then at
@@ -67,14 +67,14 @@ module _ {K : Type 0} (R : K → K → Ordering) where
   touches (Excluded x) Unbounded = false
 
   -- The order of ranges: by start, and for equal starts by end.
-  abbrev pub ends_cmp : Ends K → Ends K → Ordering
+  abbrev pub ends_cmp : (a b : Ends K) → Ordering
   ends_cmp a b = ordering_then (start_cmp R a.0 b.0) (end_cmp R a.1 b.1)
 
   -- The union of two ranges of which the second is not before the first: from the first start to the greater
   -- end. None if the two ranges neither overlap nor touch.
-  abbrev pub joined_ends : Ends K → Ends K → Option (Ends K)
+  abbrev pub joined_ends : (first second : Ends K) → Option (Ends K)
   joined_ends first second = if is_non_empty (overlap first second) || touches second.0 first.1
       then Some (first.0, ord_max (end_cmp R) first.1 second.1) else None
 
-  abbrev pub union_of : Ends K → Ends K → Option (Ends K)
+  abbrev pub union_of : (a b : Ends K) → Option (Ends K)
   union_of a b = if is_lt (ends_cmp a b) then joined_ends a b else joined_ends b a

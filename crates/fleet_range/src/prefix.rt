@@ -64,7 +64,8 @@ pub(crate) fn placed_start(
     start: Bound<&[u8]>,
 ) -> Result<Bound<Bytes>, AllocError>
     ensures { IfOk result (λ b. b
-        ≡ placed_range prefix.now (prefix_start prefix.now) (bound_map (λ key. key.now) start.entry)) }
+        ≡ placed_range prefix.now (prefix_start prefix.now)
+        (bound_map (λ key. key.now) start.entry)) }
 {
     match start {
         Bound::Included(suffix) => Ok(Bound::Included(concatenated(alloc, prefix, suffix)?)),

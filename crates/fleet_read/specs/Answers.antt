@@ -15,7 +15,8 @@ answer_of (Some (Refused message)) = Callback message
 
 -- The answer of a read of a key over the rows that the nodes of the segment's tree hold. Below the horizon or
 -- before the tick there is none.
-abbrev pub stored_answer : Operator → Store → (segment key : List ℕ) → ℕ → ℤ → ReadAnswer
+abbrev pub stored_answer : (merge : Operator) (store : Store) → (segment key : List ℕ) → (seq : ℕ) (now : ℤ)
+    → ReadAnswer
 stored_answer merge store segment key seq now =
     if is_not_retained store.manifest seq now then NotRetained store.manifest.horizon store.manifest.tick
     else answer_of (stored_read merge store segment key seq now)

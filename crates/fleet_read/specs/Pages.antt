@@ -26,7 +26,8 @@ page_shown page = record { pairs = page.pairs; ends = end_shown page.ends }
 
 -- The answer of a scan of a range over all rows that were flushed into the segment and not drained. Below the
 -- horizon or before the tick there is none.
-abbrev pub scan_answer : Operator → Store → List ℕ → Range → ℕ → ℤ → ℕ → ScanAnswer
+abbrev pub scan_answer : (merge : Operator) (store : Store) (segment : List ℕ) (range : Range) (seq : ℕ) (now : ℤ)
+    (limit : ℕ) → ScanAnswer
 scan_answer merge store segment range seq now limit =
     if is_not_retained store.manifest seq now then NotRetained store.manifest.horizon store.manifest.tick
     else Page (page_shown (first_page limit (flushed_scan merge store segment range seq now)))

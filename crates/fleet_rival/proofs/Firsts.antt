@@ -14,7 +14,7 @@ use Rattle.fleet_book.specs.declared.compactions.Compactions.{Compactions}
 use Rattle.fleet_history.specs.declared.record_change.RecordChange.TheVariants as change
 use Rattle.fleet_store.specs.Asks.{RecordsPutFit}
 use Rattle.fleet_store.proofs.Calls.{same_history}
-use Rattle.fleet_rival.specs.Starts.{next_epoch, raised}
+use Rattle.fleet_rival.specs.Starts.{epoch_world, next_epoch}
 use Rattle.step_laws.proofs.RanLaws.{only_met}
 use Rattle.fleet_rival.proofs.Rivals.{no_names, nothing}
 
@@ -30,7 +30,7 @@ same_number : (n : ℕ) → (n == n) ≡ true
 same_number n = eq-eqb n n refl
 
 -- After its put the coordinator did put the epoch.
-did_put : (world : World) → IsTrue (did_put_epoch (Coordinator 1) (raised world).store.history (next_epoch world))
+did_put : (world : World) → IsTrue (did_put_epoch (Coordinator 1) (epoch_world world).store.history (next_epoch world))
 did_put world =
     let x = PutsManifest world.store.manifest.version (ManifestEpoch (next_epoch world)) (record world.store.manifest { epoch = next_epoch world }) in
     let entry : Entry = record { line = 0; party = Coordinator 1; event = event_of x world.store; answer = answer_of x world.store } in
@@ -43,13 +43,13 @@ chosen_records true one other same = same
 chosen_records false one other same = refl
 
 -- The records are as they were.
-raised_records : (world : World) → (raised world).store.records ≡ world.store.records
+raised_records : (world : World) → (epoch_world world).store.records ≡ world.store.records
 raised_records world = chosen_records (world.store.manifest.version == world.store.manifest.version) _ world.store refl
 
 -- If the store has no records, the coordinator that has raised the manifest's epoch may put the first
 -- ones.
 records_fit_here : (who : Caller) (world : World) → who.party ≡ Coordinator 1 → world.store.records ≡ None
-    → RecordsFit who.merge who.party (raised world) (RecordsEpoch (next_epoch world)) (next_epoch world) []
+    → RecordsFit who.merge who.party (epoch_world world) (RecordsEpoch (next_epoch world)) (next_epoch world) []
 records_fit_here who world by empty =
     let none = raised_records world ∙ empty in
     record {
@@ -58,14 +58,14 @@ records_fit_here who world by empty =
       makes_jobs = ap (λ records. trimmed_jobs (jobs_in records)) (sym none);
       makes_epoch = refl;
       fits = record {
-        by = subst (λ party. IsTrue (did_put_epoch party (raised world).store.history (next_epoch world))) (sym by) (did_put world);
+        by = subst (λ party. IsTrue (did_put_epoch party (epoch_world world).store.history (next_epoch world))) (sym by) (did_put world);
         above = omega (arith, ap records_epoch none);
       };
     }
 
 -- So it may put the first records, with that epoch and no jobs.
 pub records_fit : (view : StoreView) (world : World) (value : Compactions) (epoch : ℕ) → view.who.alone ≡ true → view.who.party ≡ Coordinator 1 → world.store.records ≡ None
-    → view.world ≡ raised world → value ≡ record { compactor_epoch = epoch; jobs = [] } → epoch ≡ next_epoch world → RecordsPutFit view 0 value (change.Epoch epoch)
+    → view.world ≡ epoch_world world → value ≡ record { compactor_epoch = epoch; jobs = [] } → epoch ≡ next_epoch world → RecordsPutFit view 0 value (change.Epoch epoch)
 records_fit view world value epoch alone by empty left is next = rw (is, next) (record {
   lawful = λ met rivals. (
     no_names view.who.party met,

@@ -10,13 +10,13 @@ abbrev pub next_epoch : World → ℕ
 next_epoch world = world.store.manifest.epoch + 1
 
 -- The world after the coordinator 1 put the next epoch into the manifest.
-abbrev pub raised : World → World
-raised world =
+abbrev pub epoch_world : World → World
+epoch_world world =
     after_call 0 (Coordinator 1)
     (PutsManifest world.store.manifest.version (ManifestEpoch (next_epoch world))
     (record world.store.manifest { epoch = next_epoch world })) None world
 
 -- The world after it then put the first records, which have that epoch and no jobs.
-abbrev pub started : World → World
-started world = after_call 0 (Coordinator 1)
-    (PutsRecords 0 (RecordsEpoch (next_epoch world)) (next_epoch world) []) None (raised world)
+abbrev pub records_world : World → World
+records_world world = after_call 0 (Coordinator 1)
+    (PutsRecords 0 (RecordsEpoch (next_epoch world)) (next_epoch world) []) None (epoch_world world)

@@ -1,7 +1,7 @@
 //! The first records of a store.
 
 ghost use Rattle.std.specs.Prelude.{◌≡◌, None, IfOk, OnOk};
-ghost use Rattle.fleet_rival.specs.Starts.{next_epoch, raised, started};
+ghost use Rattle.fleet_rival.specs.Starts.{epoch_world, next_epoch, records_world};
 
 use fleet_book::Compactions;
 use fleet_fold::AppendOperator;
@@ -16,7 +16,7 @@ use std::alloc::Global;
 pub fn first_records(store: &mut MemStore, alloc: Global) -> Result<u64, SlateDBError>
     requires { store.old.world.store.records ≡ None }
     ensures version { IfOk result (λ version. version ≡ 1) }
-    ensures world { OnOk result (store.new.world ≡ started store.old.world) }
+    ensures world { OnOk result (store.new.world ≡ records_world store.old.world) }
 {
     let epoch = raise_epoch(store, alloc)?;
     let records = Compactions::new(alloc, epoch);
@@ -28,7 +28,7 @@ pub fn first_records(store: &mut MemStore, alloc: Global) -> Result<u64, SlateDB
 // Puts the next epoch into the manifest, by the coordinator 1. The answer is that epoch.
 fn raise_epoch(store: &mut MemStore, alloc: Global) -> Result<u64, SlateDBError>
     ensures epoch { IfOk result (λ epoch. epoch ≡ next_epoch store.old.world) }
-    ensures world { OnOk result (store.new.world ≡ raised store.old.world) }
+    ensures world { OnOk result (store.new.world ≡ epoch_world store.old.world) }
 {
     let stored = store.manifest();
     let version = stored.id;

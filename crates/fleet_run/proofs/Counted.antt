@@ -3,7 +3,7 @@ use Rattle.std.proofs.Common.{◌≡◌, ◌⊎◌, inl, inr, sym, ap, ◌∙◌
 use Rattle.std.specs.Prelude.{OnErr, OnOk}
 use Rattle.fleet_generate.proofs.ScriptLines.{count_of_lines}
 use Rattle.script_model.specs.Script.{script_text}
-use Rattle.script_model.specs.Generated.{generated}
+use Rattle.script_model.specs.Generated.{generated_lines}
 use Rattle.script_model.specs.States.{Inputs, FleetOptions, State}
 use Rattle.fleet_run.specs.Commands.{Asks, IsAllowed, command_words}
 use Rattle.fleet_run.specs.Generating.{RunsCounted}
@@ -18,7 +18,7 @@ use Rattle.fleet_run.specs.declared.script.FleetError.TheVariants.{BadLine, Memo
 use Rattle.fleet_run.proofs.CommandWords.{for_asked}
 
 -- If a fresh sink counted the replies, the sizes are those of the script and of its replies.
-pub counted : (inputs : Inputs) (options : FleetOptions) (number rounds : ℕ) (text : List ℕ) (last : State) (old new : SinkView) (script replies : ℕ) → text ≡ script_text (generated number rounds) → old.taken ≡ 0 → new.taken ≡ replies → script ≡ length text
+pub counted : (inputs : Inputs) (options : FleetOptions) (number rounds : ℕ) (text : List ℕ) (last : State) (old new : SinkView) (script replies : ℕ) → text ≡ script_text (generated_lines number rounds) → old.taken ≡ 0 → new.taken ≡ replies → script ≡ length text
     → Served inputs options text last old new → RunsCounted inputs options number rounds last (record { script = script; replies = replies })
 counted inputs options number rounds text last old new script replies is fresh taken size ran =
     let served = subst (λ text. Served inputs options text last old new) is ran in
@@ -33,8 +33,8 @@ module _ (inputs : Inputs) (options : FleetOptions) (number rounds : ℕ) (last 
   sums_up : line ≡ summary_of number rounds ran.ran.written
   sums_up =
       is ∙ ap (λ n. summary rounds n sizes.script sizes.replies) (sym (count_of_lines number rounds))
-      ∙ ap (λ n. summary rounds (length (generated number rounds)) n sizes.replies) ran.script
-      ∙ ap (λ n. summary rounds (length (generated number rounds)) (length (script_text (generated number rounds))) n) ran.replies
+      ∙ ap (λ n. summary rounds (length (generated_lines number rounds)) n sizes.replies) ran.script
+      ∙ ap (λ n. summary rounds (length (generated_lines number rounds)) (length (script_text (generated_lines number rounds))) n) ran.replies
 
   -- If the sink took the line, the summary was written.
   pub wrote : OnOk r (Took line old new) → OnOk r (WritesSummary inputs options number rounds last old new)

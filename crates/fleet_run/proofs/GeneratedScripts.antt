@@ -3,7 +3,7 @@ use Rattle.std.proofs.Common.{◌≡◌, refl, ℕ, ◌≤◌, List, [], ◌∷�
 use Rattle.std.specs.List.{AllByRecursion}
 use Rattle.script_model.specs.Script.{Line, Options, Together, AreLines, IsScript, script_text}
 use Rattle.script_model.specs.Grammars.{full_grammar, is_served, served_grammar}
-use Rattle.script_model.specs.Generated.{generated}
+use Rattle.script_model.specs.Generated.{generated_lines}
 use Rattle.fleet_generate.specs.Laws.{is_of_generated_kind}
 use Rattle.fleet_generate.proofs.ScriptLines.{are_of_kinds, is_script}
 
@@ -15,5 +15,5 @@ lines_are_served : (before lines : List Line) → AllByRecursion (λ line. is_of
 lines_are_served before [] kinds each = tt
 lines_are_served before (line ∷ lines) kinds each = ((each.0, kind_is_served line kinds.0), lines_are_served (before ++ line ∷ []) lines kinds.1 each.1)
 
-pub generated_is_served : (number rounds : ℕ) → rounds ≤ 2000 → IsScript served_grammar (script_text (generated number rounds)) (generated number rounds)
-generated_is_served number rounds few = record { whole = refl; each = lines_are_served [] (generated number rounds) (are_of_kinds number rounds few) (is_script number rounds few).each }
+pub generated_is_served : (number rounds : ℕ) → rounds ≤ 2000 → IsScript served_grammar (script_text (generated_lines number rounds)) (generated_lines number rounds)
+generated_is_served number rounds few = record { whole = refl; each = lines_are_served [] (generated_lines number rounds) (are_of_kinds number rounds few) (is_script number rounds few).each }

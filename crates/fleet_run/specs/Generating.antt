@@ -1,6 +1,6 @@
 -- How a generated script runs when its replies are counted alone.
 use Rattle.std.specs.Prelude.{◌≡◌, ℕ, length}
-use Rattle.script_model.specs.Generated.{generated}
+use Rattle.script_model.specs.Generated.{generated_lines}
 use Rattle.script_model.specs.Script.{script_text}
 use Rattle.script_model.specs.States.{Inputs, FleetOptions, State}
 use Rattle.fleet_run.specs.SourceAndSink.{counted_bytes}
@@ -11,5 +11,5 @@ use Rattle.fleet_run.specs.declared.generated.Sizes.{Sizes}
 pub record RunsCounted (inputs : Inputs) (options : FleetOptions) (number rounds : ℕ) (last : State) (sizes : Sizes)
     : Type 0 where
   pub ran : RunsGenerated inputs options number rounds last
-  pub script : sizes.script ≡ length (script_text (generated number rounds))
+  pub script : sizes.script ≡ length (script_text (generated_lines number rounds))
   pub replies : sizes.replies ≡ counted_bytes 0 (length ran.written)

@@ -4,7 +4,7 @@ use Rattle.std.specs.List.{list_any}
 use Rattle.std.specs.Io.KnownBytes.{Consumes, IsAtEnd}
 use Rattle.script_model.specs.Script.{Line, IsBadAt, script_text}
 use Rattle.script_model.specs.Grammars.{served_grammar}
-use Rattle.script_model.specs.Generated.{generated}
+use Rattle.script_model.specs.Generated.{generated_lines}
 use Rattle.script_model.specs.Follows.{Follows}
 use Rattle.script_model.specs.States.{Inputs, FleetOptions, State}
 use Rattle.fleet_run.specs.SourceAndSink.{SourceView, SinkView, Took, TookShort, counted_bytes}
@@ -74,7 +74,7 @@ pub record RunsFirst (inputs : Inputs) (options : FleetOptions) (source_old sour
 -- is the replies.
 pub record RunsGenerated (inputs : Inputs) (options : FleetOptions) (number rounds : ℕ) (last : State) : Type 0 where
   pub written : List ℕ
-  pub follows : Follows served_grammar inputs options (script_text (generated number rounds)) last.store written
+  pub follows : Follows served_grammar inputs options (script_text (generated_lines number rounds)) last.store written
   pub left : follows.last ≡ last
 
 -- The line that tells of the run of a generated script: how many rounds and lines the script has, and how many bytes
@@ -87,7 +87,7 @@ summary rounds lines script replies =
 -- The summary of the run of the script that the number and the rounds make, with these replies.
 abbrev pub summary_of : (number rounds : ℕ) → (written : List ℕ) → List ℕ
 summary_of number rounds written =
-    summary rounds (length (generated number rounds)) (length (script_text (generated number rounds)))
+    summary rounds (length (generated_lines number rounds)) (length (script_text (generated_lines number rounds)))
     (counted_bytes 0 (length written))
 
 -- Status 0: the generated script ran, and the sink took exactly its summary.

@@ -14,11 +14,11 @@ pub record SinkView : Type 0 where
   pub faults : ℕ  -- how many writes failed
 
 -- A count in a u64 has risen by at least one. A count at the greatest u64 stays there.
-abbrev pub Rose : ℕ → ℕ → Type 0
+abbrev pub Rose : (old new : ℕ) → Type 0
 Rose old new = min (old + 1) (2 ^ 64 - 1) ≤ new
 
 -- A count in a u64 after n more. It stops at the greatest u64.
-abbrev pub counted_bytes : ℕ → ℕ → ℕ
+abbrev pub counted_bytes : (old n : ℕ) → ℕ
 counted_bytes old n = max old (min (old + n) (2 ^ 64 - 1))
 
 -- The sink took exactly these bytes.

@@ -6,7 +6,7 @@ use Rattle.row_model.specs.Fold.{Operator, Outcome}
 use Rattle.row_model.specs.Scans.{key_answer, keys_of}
 
 -- Each key of some rows that has an answer, with its answer. The keys rise.
-abbrev pub answers_of : Operator → ℕ → ℤ → List Row → List (List ℕ × Outcome)
+abbrev pub answers_of : (merge : Operator) (seq : ℕ) (now : ℤ) (rows : List Row) → List (List ℕ × Outcome)
 answers_of merge seq now rows = filter_map (key_answer merge seq now rows) (keys_of rows)
 
 -- The rows begin with another key than this one, or there are none.

@@ -11,7 +11,8 @@ use Rattle.fleet_scan.specs.Walk.{IsReading}
 use Rattle.fleet_scan.specs.declared.key_rows.ReadPoint.{ReadPoint}
 
 -- The answers of the rows left: the row that was read ahead, if there is one, and those of the merge.
-abbrev pub scanning : Operator → ReadPoint → Option RowEntry → IteratorState → Bool → Scanning
+abbrev pub scanning : (merge : Operator) (point : ReadPoint) (ahead : Option RowEntry) (rows : IteratorState)
+    (failed : Bool) → Scanning
 scanning merge point ahead rows failed =
     record { left = answers_of merge point.seq point.moment (from_ahead ahead rows); failed = failed }
 

@@ -10,7 +10,7 @@ use Rattle.script_model.specs.LineCourses.{course_of}
 use Rattle.script_model.specs.LineSteps.{OneCourse}
 use Rattle.script_model.specs.Follows.{SettleStep}
 use Rattle.script_model.specs.Lines.Settles.{are_live, has_active, has_added, jobs_run, all_taken, BeforePoll, HasPolled, HasClaimed, ToFinish, Takes, Answers, next_turn, next_claim, next_finish, SettleRun}
-use Rattle.fleet_settle.specs.Steps.{Ends, Finishes, Goes, Leads, Stepped}
+use Rattle.fleet_settle.specs.Steps.{Ends, FinishesEach, Goes, Leads, Stepped}
 use Rattle.fleet_settle.proofs.StepsTaken.{ends_here, ended_goes, goes_from, goes_to, not_refused, step_goes, then_goes}
 
 module _ (inputs : Inputs) (number coordinator worker : ℕ) where
@@ -25,7 +25,7 @@ module _ (inputs : Inputs) (number coordinator worker : ℕ) where
       ended_goes inputs number coordinator worker (HasPolled left begun) (HasClaimed left begun) (BeforePoll left begun) old new refused some
       (step_goes inputs number coordinator worker (HasPolled left begun) (HasClaimed left begun) (ClaimJobs worker) old new refused (claims left begun old active) stepped)
 
-  work_goes : (left begun : ℕ) (old mid new : State) (jobs : List ℕ) (refused : Option (List ℕ)) → has_active old ≡ true → Stepped inputs number (ClaimJobs worker) old mid None → jobs ≡ jobs_run worker mid → Finishes inputs number worker jobs mid [] new refused
+  work_goes : (left begun : ℕ) (old mid new : State) (jobs : List ℕ) (refused : Option (List ℕ)) → has_active old ≡ true → Stepped inputs number (ClaimJobs worker) old mid None → jobs ≡ jobs_run worker mid → FinishesEach inputs number worker jobs mid [] new refused
       → Goes inputs number coordinator worker (HasPolled left begun) old (BeforePoll left begun) new refused
   work_goes left begun old mid new jobs refused active stepped run finishes =
       then_goes inputs number coordinator worker (HasPolled left begun) (HasClaimed left begun) (BeforePoll left begun) old mid new refused
@@ -36,7 +36,7 @@ module _ (inputs : Inputs) (number coordinator worker : ℕ) where
 
   -- The worker claimed jobs and finished all that it ran, or a finish was refused.
   pub works : (left begun : ℕ) (old mid new : State) (jobs : List ℕ) (claimed : Option (List ℕ)) (result : Result (Option (List ℕ)) SlateDBError) → has_active old ≡ true → is_some claimed ≡ false → Stepped inputs number (ClaimJobs worker) old mid claimed → jobs ≡ jobs_run worker mid
-      → IfOk result (Finishes inputs number worker jobs mid [] new) → IfOk result (Goes inputs number coordinator worker (HasPolled left begun) old (BeforePoll left begun) new)
+      → IfOk result (FinishesEach inputs number worker jobs mid [] new) → IfOk result (Goes inputs number coordinator worker (HasPolled left begun) old (BeforePoll left begun) new)
   works left begun old mid new jobs claimed (Err e) active well stepped run finishes = tt
   works left begun old mid new jobs claimed (Ok refused) active well stepped run finishes =
       work_goes left begun old mid new jobs refused active (not_refused inputs number coordinator worker (ClaimJobs worker) old mid claimed well stepped) run finishes

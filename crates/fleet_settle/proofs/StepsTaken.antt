@@ -4,7 +4,7 @@ use Rattle.std.specs.Prelude.{is_some}
 use Rattle.script_model.specs.Script.{Line, FinishJob}
 use Rattle.script_model.specs.States.{Inputs, State}
 use Rattle.script_model.specs.Lines.Settles.{Place, ToFinish, Takes, Answers, next_turn, StepTaken, StepsLead, ComeInTurn}
-use Rattle.fleet_settle.specs.Steps.{Ends, Finishes, Goes, Leads, Stepped, WasRefused, WentWell}
+use Rattle.fleet_settle.specs.Steps.{Ends, FinishesEach, Goes, Leads, Stepped, WasRefused, WentWell}
 
 module _ (inputs : Inputs) (number coordinator worker : ℕ) where
   -- ---- one step, or the end
@@ -76,17 +76,17 @@ module _ (inputs : Inputs) (number coordinator worker : ℕ) where
 
 module _ (inputs : Inputs) (number worker : ℕ) (jobs : List ℕ) (old : State) where
   -- One more is finished, or its finish is refused.
-  pub finish_more : (left : List ℕ) (job : ℕ) (rest : List ℕ) (mid new : State) (refused : Option (List ℕ)) → left ≡ job ∷ rest → Finishes inputs number worker jobs old left mid None → Stepped inputs number (FinishJob worker job) mid new refused → Finishes inputs number worker jobs old rest new refused
+  pub finish_more : (left : List ℕ) (job : ℕ) (rest : List ℕ) (mid new : State) (refused : Option (List ℕ)) → left ≡ job ∷ rest → FinishesEach inputs number worker jobs old left mid None → Stepped inputs number (FinishJob worker job) mid new refused → FinishesEach inputs number worker jobs old rest new refused
   finish_more left job rest mid new refused is so_far stepped = λ coordinator rounds begun.
       then_goes inputs number coordinator worker (ToFinish jobs rounds begun) (ToFinish left rounds begun) (ToFinish rest rounds begun) old mid new refused (so_far coordinator rounds begun)
       (step_goes inputs number coordinator worker (ToFinish left rounds begun) (ToFinish rest rounds begun) (FinishJob worker job) mid new refused (ap (λ js. next_turn coordinator worker (ToFinish js rounds begun) mid) is) stepped)
 
   -- A finish that is not refused is followed by the next one.
-  pub finish_on : (left : List ℕ) (new : State) (refused : Option (List ℕ)) → is_some refused ≡ false → Finishes inputs number worker jobs old left new refused → Finishes inputs number worker jobs old left new None
+  pub finish_on : (left : List ℕ) (new : State) (refused : Option (List ℕ)) → is_some refused ≡ false → FinishesEach inputs number worker jobs old left new refused → FinishesEach inputs number worker jobs old left new None
   finish_on left new None none so_far = so_far
   finish_on left new (Some answer) none so_far = absurd (cc none)
 
   -- A refused finish is the last one.
-  pub finish_ends : (left : List ℕ) (new : State) (refused : Option (List ℕ)) → is_some refused ≡ true → Finishes inputs number worker jobs old left new refused → Finishes inputs number worker jobs old [] new refused
+  pub finish_ends : (left : List ℕ) (new : State) (refused : Option (List ℕ)) → is_some refused ≡ true → FinishesEach inputs number worker jobs old left new refused → FinishesEach inputs number worker jobs old [] new refused
   finish_ends left new refused some so_far = λ coordinator rounds begun.
       ended_goes inputs number coordinator worker (ToFinish jobs rounds begun) (ToFinish left rounds begun) (ToFinish [] rounds begun) old new refused some (so_far coordinator rounds begun)

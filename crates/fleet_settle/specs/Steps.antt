@@ -40,7 +40,8 @@ pub record Ends (inputs : Inputs) (number coordinator worker : ℕ) (place : Pla
 
 -- Some steps bring a settle line from one place and state to another: the line ends from the first one as it
 -- ends from the second one.
-abbrev pub Leads : Inputs → (number coordinator worker : ℕ) → Place → State → Place → State → Type 0
+abbrev pub Leads : (inputs : Inputs) → (number coordinator worker : ℕ) → (place : Place) (old : State) (to : Place)
+    (new : State) → Type 0
 Leads inputs number coordinator worker place old to new = (answer : List ℕ) (last : State)
     → Ends inputs number coordinator worker to new answer last
     → Ends inputs number coordinator worker place old answer last
@@ -53,6 +54,7 @@ Goes inputs number coordinator worker place old to new (Some answer) =
 
 -- The worker finished jobs until these others are left, whatever follows them. If there is a reply, a finish was
 -- refused instead.
-abbrev pub Finishes : Inputs → (number worker : ℕ) → List ℕ → State → List ℕ → State → Option (List ℕ) → Type 0
-Finishes inputs number worker jobs old left new refused = (coordinator rounds begun : ℕ)
+abbrev pub FinishesEach : (inputs : Inputs) → (number worker : ℕ) → (jobs : List ℕ) (old : State) (left : List ℕ)
+    (new : State) (refused : Option (List ℕ)) → Type 0
+FinishesEach inputs number worker jobs old left new refused = (coordinator rounds begun : ℕ)
     → Goes inputs number coordinator worker (ToFinish jobs rounds begun) old (ToFinish left rounds begun) new refused

@@ -8,7 +8,7 @@ ghost use Rattle.script_model.specs.Follows.{runs_one_course};
 ghost use Rattle.script_model.specs.Lines.Settles as settles;
 ghost use Rattle.script_model.specs.Script.{IsInBounds};
 ghost use Rattle.fleet_lines.specs.Fleets.{IsServing, state_of};
-ghost use Rattle.fleet_settle.specs.Steps.{Finishes, Stepped, inputs_of};
+ghost use Rattle.fleet_settle.specs.Steps.{FinishesEach, Stepped, inputs_of};
 
 use fleet_fold::MergeOperator;
 use fleet_lines::Fleet;
@@ -62,7 +62,7 @@ pub(crate) fn finish_jobs<R: Threads + Sync, O: MergeOperator>(
 ) -> Result<Option<Reply>, SlateDBError>
     requires serving { IsServing (O.merged (O.settings operator.now)) fleet.old }
     requires counted { All (λ job. 1 ≤ job) jobs.now }
-    ensures finishes { IfOk result (Finishes
+    ensures finishes { IfOk result (FinishesEach
         (inputs_of (O.merged (O.settings operator.now)) (answers scheduler.now))
         number worker jobs.now (state_of fleet.old) [] (state_of fleet.new)) }
     ensures serving { OnOk result (IsServing (O.merged (O.settings operator.now)) fleet.new) }

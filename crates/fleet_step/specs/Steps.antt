@@ -82,13 +82,13 @@ pub record TryRan {A B : Type 0} (ends : A → StepEnd B) (course : Course (Step
 -- ---- puts of the records
 
 -- How a course goes on after a put of the records: by whether its version is stored.
-abbrev pub put_then : {A : Type 0} → ℕ → Course A → (ℕ → Course A) → Store → Course A
+abbrev pub put_then : {A : Type 0} → (version : ℕ) (next : Course A) (again : ℕ → Course A) (met : Store) → Course A
 put_then version next again met =
     if version == records_version met.records then next else again (records_version met.records)
 
 -- A course that makes this put of the records for a version. It goes on with `next`, or with `again` if the put is
 -- refused.
-abbrev pub puts_and : {A : Type 0} → Exchange → ℕ → Course A → (ℕ → Course A) → Course A
+abbrev pub puts_and : {A : Type 0} → (put : Exchange) (version : ℕ) (next : Course A) (again : ℕ → Course A) → Course A
 puts_and put version next again = Calls put (put_then version next again)
 
 -- The answer of a step that ends with a put.

@@ -48,7 +48,8 @@ module _ (old new : StoreView) where
   abbrev pub GetsManifest : Result VersionedManifest SlateDBError → Type 0
   GetsManifest result = Called old new (λ met. Plain GetManifest) (λ met manifest. IsManifest manifest met) Never result
 
-  abbrev pub PutsManifest : ℕ → Manifest → ManifestChange → List JobParts → Result ℕ SlateDBError → Type 0
+  abbrev pub PutsManifest : (version : ℕ) (value : Manifest) (why : ManifestChange) (jobs : List JobParts)
+      (result : Result ℕ SlateDBError) → Type 0
   PutsManifest version value why jobs result =
       Called old new (manifest_put version value why jobs) (λ met. PutsNext version met.manifest.version)
       (λ met. ShowsStored version met.manifest.version) result

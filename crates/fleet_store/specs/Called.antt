@@ -60,9 +60,9 @@ abbrev pub Never : Store → ℕ → Type 0
 Never store seen = ⊥
 
 -- A put is done if its version is the stored one, and answers the next version.
-abbrev pub PutsNext : ℕ → (stored : ℕ) → ℕ → Type 0
+abbrev pub PutsNext : (version : ℕ) → (stored : ℕ) → (next : ℕ) → Type 0
 PutsNext version stored next = (version ≡ stored) × (next ≡ version + 1)
 
 -- A put is refused if its version is not the stored one, which is shown.
-abbrev pub ShowsStored : ℕ → (stored : ℕ) → ℕ → Type 0
+abbrev pub ShowsStored : (version : ℕ) → (stored : ℕ) → (seen : ℕ) → Type 0
 ShowsStored version stored seen = (version ≢ stored) × (seen ≡ stored)

@@ -15,7 +15,8 @@ use Rattle.fleet_history.specs.declared.record_change.RecordChange.{RecordChange
 use Rattle.fleet_store.specs.Manifests.{meant_by}
 
 -- A put of a manifest over this store. The jobs are those that a commit does.
-abbrev pub manifest_put : ℕ → Manifest → ManifestChange → List JobParts → model_store.Store → model.Exchange
+abbrev pub manifest_put : (version : ℕ) (value : Manifest) (why : ManifestChange) (jobs : List JobParts)
+    (store : model_store.Store) → model.Exchange
 manifest_put version value why jobs store =
     model.PutsManifest version (manifest_change_of why) (meant_by jobs (manifest_change_of why) version value store)
 

@@ -77,7 +77,8 @@ changed_trees specs (model.Commit steps) store =
 
 -- The model's manifest that is meant by a program's manifest which is put over this store: its trees are those
 -- that the change makes of the stored ones, and all else it has itself.
-abbrev pub meant_by : List JobParts → model.ManifestChange → ℕ → Manifest → model_store.Store → model_store.Manifest
+abbrev pub meant_by : (jobs : List JobParts) (change : model.ManifestChange) (version : ℕ) (manifest : Manifest)
+    (store : model_store.Store) → model_store.Manifest
 meant_by jobs change version manifest store =
     record (manifest_of (λ prefix run. []) version manifest.compactor_epoch manifest.core)
     { trees = changed_trees (spec_in jobs) change store }

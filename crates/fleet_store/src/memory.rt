@@ -218,7 +218,8 @@ impl MemStore {
     }
 
     pub(crate) fn make_draw_table(&mut self, moment: u64) -> Outcome<Ulid>
-        ensures { Makes (DrawsTable moment) [] (λ id. id ≡ next_table_id moment self.old.world.store)
+        ensures { Makes (DrawsTable moment) []
+            (λ id. id ≡ next_table_id moment self.old.world.store)
             (Never self.old.world.store) self.old self.new result }
     {
         let _many = self.log.len();

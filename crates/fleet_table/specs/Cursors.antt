@@ -59,7 +59,7 @@ abbrev pub IsCursor : List Row → Cursor → Type 0
 IsCursor rows cursor = (cursor.row ≤ length rows) × (cursor.row < length rows → StandsAt rows cursor)
 
 -- The rows from one place up to another.
-abbrev pub rows_between : ℕ → ℕ → List Row → List Row
+abbrev pub rows_between : (start end : ℕ) (rows : List Row) → List Row
 rows_between start end rows = take (end - start) (drop start rows)
 
 -- The first of the old rows was taken, if there is one.

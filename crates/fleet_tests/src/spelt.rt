@@ -2,7 +2,7 @@
 ghost use Rattle.std.specs.Prelude.{◌≡◌, ⊤, Bool, IfOk};
 ghost use Rattle.std.specs.List.{AllByRecursion};
 ghost use Rattle.fleet_iter.specs.Iteration.{IsAlive, AreRising};
-ghost use Rattle.fleet_iter.specs.List.{giving};
+ghost use Rattle.fleet_iter.specs.List.{giving_state};
 ghost use Rattle.fleet_iter.specs.Merge.{given_rows};
 ghost use Rattle.fleet_iter.specs.MergeState.{state_of, merge_of, IsSound};
 
@@ -85,10 +85,10 @@ fn lists(alloc: Global, text: &str) -> Result<Vec<ListIterator>, SlateDBError>
 
 /// A merge of lists, which have `|` between them in the text.
 pub(crate) fn merge(alloc: Global, text: &str) -> Result<MergeIterator<ListIterator>, SlateDBError>
-    ensures sound { IfOk result (λ merge. IsSound (λ _. ⊤) giving merge) }
-    ensures alive { IfOk result (λ merge. IsAlive (state_of giving merge)) }
+    ensures sound { IfOk result (λ merge. IsSound (λ _. ⊤) giving_state merge) }
+    ensures alive { IfOk result (λ merge. IsAlive (state_of giving_state merge)) }
     ensures rising { IfOk result
-        (λ merge. (dedup : Bool) → AreRising (given_rows dedup (merge_of giving merge))) }
+        (λ merge. (dedup : Bool) → AreRising (given_rows dedup (merge_of giving_state merge))) }
 {
     merges_rise();
     Ok(MergeIterator::new(alloc, lists(alloc, text)?))

@@ -5,10 +5,9 @@ use Rattle.fleet_tree.specs.Views.{View}
 use Rattle.fleet_tree.specs.declared.handle.SsTableHandle.{SsTableHandle}
 use Rattle.fleet_tree.specs.declared.run.SortedRun.{SortedRun}
 use Rattle.fleet_tree.specs.declared.tree.LsmTreeState.{LsmTreeState}
-use Rattle.fleet_jobs.specs.Contexts.{table_ids}
 use Rattle.script_model.specs.Words.{bytes_text, kind_text, content_text, nodes_text, list_text, comma}
 use Rattle.row_model.specs.Rows.{Content}
-use Rattle.script_model.specs.Replies.{reply, jobs_text, rules_text, counted_text, ranges_text, begun_text}
+use Rattle.script_model.specs.Replies.{reply, jobs_text, rules_text, counted_text, begun_text}
 use Rattle.fleet_text.specs.Places.{places_text}
 use Rattle.fleet_text.specs.declared.report.PollReport.{PollReport}
 use Rattle.fleet_text.specs.declared.report.Begun.{Begun}
@@ -28,10 +27,6 @@ tree_nodes t = map (λ (view : View). L0 view.id) t.l0 ++ map (λ (run : SortedR
 -- The text of tables with their numbers of rows: a list with commas.
 abbrev pub counted_tables : List SsTableHandle → List ℕ
 counted_tables tables = list_text comma (map (λ (table : SsTableHandle). counted_text (table.id, table.rows)) tables)
-
--- The text of ranges, each given by its tables.
-abbrev pub ranges_of_tables : List (List SsTableHandle) → List ℕ
-ranges_of_tables ranges = ranges_text (map table_ids ranges)
 
 -- The text of a segment: its prefix and the nodes of its tree.
 abbrev pub tree_text : List ℕ × LsmTreeState → List ℕ

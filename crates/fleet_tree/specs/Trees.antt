@@ -20,7 +20,7 @@ newer_than (Some mark) views = take_while (λ view. not (view.id == mark)) views
 
 -- A compactor's tree with the flushes of its writer. It has the remote flushes that are newer than the local
 -- watermark, and the remote last sequence. The runs and the watermark are the local ones.
-abbrev pub from_writer : LsmTreeState → LsmTreeState → LsmTreeState
+abbrev pub from_writer : (local remote : LsmTreeState) → LsmTreeState
 from_writer local remote = record {
   l0 = newer_than local.last_compacted_l0_sst_view_id remote.l0;
   compacted = local.compacted;

@@ -166,7 +166,8 @@ fn flush_segment(
     view: SsTableView,
     last_seq: u64,
 ) -> Result<(), SlateDBError>
-    ensures ok { OnOk result (segments.new ≡ flushed_segments prefix.now view last_seq segments.old) }
+    ensures ok { OnOk result
+        (segments.new ≡ flushed_segments prefix.now view last_seq segments.old) }
     ensures err { OnErr result (segments.new ≡ segments.old) }
     ensures memory { IsOkUnless result SlateDBError.Memory }
 {

@@ -25,7 +25,7 @@ use Rattle.fleet_model.specs.Work.Parties.{Attempt, attempt_jobs, named_attempts
 use Rattle.fleet_history.specs.declared.record_change.RecordChange.TheVariants as change
 use Rattle.fleet_worker.proofs.Lists.{rising_map}
 use Rattle.fleet_worker.specs.Workers.{AttemptParts, WorkerParts, live_of}
-use Rattle.fleet_worker.specs.Releases.{GivesBack, IsReleaseOf, MakesRecords, given_back, is_named, live_among, released_are, waiting}
+use Rattle.fleet_worker.specs.Releases.{GivesBack, IsReleaseOf, MakesRecords, given_back, is_named, live_among, released_are, waiting_record}
 
 named_contains : (attempts : List (ℕ × ℕ)) (job : ℕ) → is_named attempts job ≡ contains (firsts attempts) job
 named_contains [] job = refl
@@ -39,21 +39,21 @@ module _ (attempts : List (ℕ × ℕ)) where
   same_id : (job : JobParts) → (given_back attempts job).id ≡ job.id
   same_id job = by (is_named attempts job.id)
     where
-      by : (b : Bool) → (cond b (waiting job) job).id ≡ job.id
+      by : (b : Bool) → (cond b (waiting_record job) job).id ≡ job.id
       by true = refl
       by false = refl
 
   same_handles : (job : JobParts) → job_handles (given_back attempts job) ≡ job_handles job
   same_handles job = by (is_named attempts job.id)
     where
-      by : (b : Bool) → job_handles (cond b (waiting job) job) ≡ job_handles job
+      by : (b : Bool) → job_handles (cond b (waiting_record job) job) ≡ job_handles job
       by true = refl
       by false = refl
 
   model_job : (job : JobParts) → job_of (given_back attempts job) ≡ cond (contains (firsts attempts) job.id) (to_waiting (job_of job)) (job_of job)
   model_job job = by (is_named attempts job.id) ∙ ap (λ b. cond b (to_waiting (job_of job)) (job_of job)) (named_contains attempts job.id)
     where
-      by : (b : Bool) → job_of (cond b (waiting job) job) ≡ cond b (to_waiting (job_of job)) (job_of job)
+      by : (b : Bool) → job_of (cond b (waiting_record job) job) ≡ cond b (to_waiting (job_of job)) (job_of job)
       by true = refl
       by false = refl
 

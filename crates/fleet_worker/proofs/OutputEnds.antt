@@ -24,7 +24,7 @@ use Rattle.fleet_plan.specs.Parts.{Part}
 use Rattle.fleet_store.specs.Handles.{IsDescribed}
 use Rattle.fleet_step.specs.Steps.{RunsTo, stops}
 use Rattle.fleet_worker.specs.Claims.{put_part, without_parts}
-use Rattle.fleet_worker.specs.Outputs.{IsPartAt, IsReason, IsTold, OutputRan, OutputsRan, RangeRan, after_noting, asked, is_refusal, left_by, noted_parts, noting_part, output_ends, output_of, table_with, written_rows}
+use Rattle.fleet_worker.specs.Outputs.{HasNoted, IsPartAt, IsReason, OutputRan, OutputsRan, RangeRan, after_noting, asked_output, is_refusal, left_by, noted_parts, noting_part, output_ends, output_of, table_with, written_rows}
 use Rattle.fleet_worker.specs.Workers.{AreNoted, AttemptParts, IsNoted, IsReady, WorkerParts, attempt_of, live_of, run_at}
 use Rattle.fleet_worker.proofs.Later.{some_noted}
 use Rattle.fleet_worker.proofs.OutputRuns.{err_alike}
@@ -67,7 +67,7 @@ module _ (moment : ℕ) (w : WorkerParts) (place rows : ℕ) (old new : StoreVie
   -- An error says the same.
   pub same_error : (next next' : List AttemptParts) (e : SlateDBError) → RangeRan moment w place rows old new t next (Err e) a part → RangeRan moment w place rows old new t' next' (Err e) a part
   same_error next next' e ran =
-      let ask = asked moment w a place part rows ran.refusal in
+      let ask = asked_output moment w a place part rows ran.refusal in
       let ends = λ (answer : A). output_ends (written_rows old ask) next (t answer) in
       let ends' = λ (answer : A'). output_ends (written_rows old ask) next' (t' answer) in
       record {
@@ -80,7 +80,7 @@ module _ (moment : ℕ) (w : WorkerParts) (place rows : ℕ) (old new : StoreVie
   -- So does an answer with the same table.
   pub same_answer : (next : List AttemptParts) (answer : A) (answer' : A') → t answer ≡ t' answer' → RangeRan moment w place rows old new t next (Ok answer) a part → RangeRan moment w place rows old new t' next (Ok answer') a part
   same_answer next answer answer' same ran =
-      let ask = asked moment w a place part rows ran.refusal in
+      let ask = asked_output moment w a place part rows ran.refusal in
       record {
         refusal = ran.refusal;
         because = answer_reason answer answer' ran.refusal ran.because;
@@ -91,7 +91,7 @@ module _ (moment : ℕ) (w : WorkerParts) (place rows : ℕ) (old new : StoreVie
   -- Memory may run out after it.
   pub lacks_after : (next next' : List AttemptParts) (answer : A) → RangeRan moment w place rows old new t next (Ok answer) a part → RangeRan moment w place rows old new t' next' (Err error.Memory) a part
   lacks_after next next' answer ran =
-      let ask = asked moment w a place part rows ran.refusal in
+      let ask = asked_output moment w a place part rows ran.refusal in
       record {
         refusal = ran.refusal;
         because = lacks_reason answer ran.refusal ran.because;
@@ -149,7 +149,7 @@ stops_alike A A' (error.CompactionFilter cause) = refl
 module _ (moment : ℕ) (w : WorkerParts) (place rows : ℕ) (old new : StoreView) (a : AttemptParts) (part : Part) (merges : IsLawful old.who.merge) (ready : IsReady old w) (run : run_at w.attempts a.job ≡ Some a) (at : IsPartAt a place part)
     (result : Result (Option SsTableHandle) SlateDBError) (next : List AttemptParts) (ran : RangeRan moment w place rows old new (λ (answer : Option SsTableHandle). answer) next result a part) where
   abbrev asked_so : OutputAsk
-  asked_so = asked moment w a place part rows ran.refusal
+  asked_so = asked_output moment w a place part rows ran.refusal
 
   -- What the worker had noted is described after the output.
   pub noted_then : AreNoted w.attempts new.world.store
@@ -186,7 +186,7 @@ module _ (moment : ℕ) (w : WorkerParts) (job place rows : ℕ) (old new : Stor
       (noted_then moment w place rows old new ran.attempt ran.part merges ready run ran.at (Ok None) w.attempts ran.ran)
 
   -- A table was written.
-  module _ (table : SsTableHandle) (attempts : List AttemptParts) (noted_so : IsTold w job place new table attempts) (out : Outputs (Ok (Some (table, attempts)))) where
+  module _ (table : SsTableHandle) (attempts : List AttemptParts) (noted_so : HasNoted w job place new table attempts) (out : Outputs (Ok (Some (table, attempts)))) where
     attempts_are : after_noting place table out.attempt w.attempts ≡ attempts
     attempts_are = ap (λ a. after_noting place table a w.attempts) (one_run w.attempts job out.attempt noted_so.attempt out.runs noted_so.runs) ∙ sym noted_so.noted
 

@@ -32,7 +32,7 @@ use Rattle.fleet_output.proofs.Failures.{IsStopped, gets_stop, none_refused, put
 use Rattle.fleet_output.proofs.GotTables.{gets_fail}
 use Rattle.fleet_output.proofs.Puts.{put_leads, puts_fail}
 use Rattle.fleet_worker.specs.Messages.{if_numbered, runs_then}
-use Rattle.fleet_worker.specs.Outputs.{IsPartAt, RangeRan, asked, is_refusal, next_by, output_ends}
+use Rattle.fleet_worker.specs.Outputs.{IsPartAt, RangeRan, asked_output, is_refusal, next_by, output_ends}
 use Rattle.fleet_worker.specs.Workers.{AttemptParts, IsReady, WorkerParts, attempt_of, live_of, run_at}
 use Rattle.fleet_worker.proofs.Outputs.{after_same, course_is, got_here, left_same}
 use Rattle.fleet_worker.proofs.Refused.{gave_back}
@@ -118,7 +118,7 @@ module _ (moment : ℕ) (view : StoreView) (w : WorkerParts) (a : AttemptParts) 
   left = left_for merge stored (settings_in a.ctx) a.tables part
 
   abbrev ask : Option (List ℕ) → OutputAsk
-  ask refusal = asked moment w a place part rows refusal
+  ask refusal = asked_output moment w a place part rows refusal
 
   same : left ≡ unwritten merge stored (attempt_of a) (noted_range part)
   same = left_same view w a place part merges ready run at moment rows

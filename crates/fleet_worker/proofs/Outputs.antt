@@ -35,7 +35,7 @@ use Rattle.fleet_output.specs.Next.{CanResume, left_for}
 use Rattle.fleet_output.specs.Writes.{MayWrite}
 use Rattle.fleet_output.proofs.GotTables.{got_leads, ids_are}
 use Rattle.fleet_worker.specs.Claims.{without_parts}
-use Rattle.fleet_worker.specs.Outputs.{IsPartAt, after_noting, asked, noted_parts, noting_part}
+use Rattle.fleet_worker.specs.Outputs.{IsPartAt, after_noting, asked_output, noted_parts, noting_part}
 use Rattle.fleet_worker.specs.Workers.{AttemptParts, IsNoted, IsReady, WorkerParts, attempt_of, live_of, run_at}
 use Rattle.fleet_worker.proofs.Inserted.{put_same, without_same}
 use Rattle.fleet_worker.proofs.Ready.{IsSafe, ready_midway}
@@ -103,7 +103,7 @@ module _ (view : StoreView) (w : WorkerParts) (a : AttemptParts) (place : ℕ) (
 
   module _ (moment rows : ℕ) where
     abbrev ask : Option (List ℕ) → OutputAsk
-    ask refusal = asked moment w a place part rows refusal
+    ask refusal = asked_output moment w a place part rows refusal
 
     abbrev course : Option (List ℕ) → Course (StepEnd Written)
     course refusal = output merge stored (ask refusal)

@@ -19,7 +19,7 @@ use Rattle.fleet_rows.specs.declared.errors.SlateDBError.TheVariants as error
 use Rattle.fleet_rows.specs.declared.errors.MergeOperatorError.TheVariants as merge_error
 use Rattle.step_model.specs.Views.{StoreView}
 use Rattle.fleet_step.specs.Steps.{Leads, RunsTo, StepRan, end_of, stops}
-use Rattle.fleet_worker.specs.Workers.{AreNoted, AttemptParts, IsReady, IsReadyAnywhere, MayStep, WorkerParts, attempt_of, live_of, started}
+use Rattle.fleet_worker.specs.Workers.{AreNoted, AttemptParts, IsReady, IsReadyAnywhere, MayStep, WorkerParts, attempt_of, live_of, started_worker}
 use Rattle.fleet_worker.proofs.Later.{runs_later, still_noted}
 use Rattle.worker_laws.proofs.Fewer.{idle_workers_fit}
 use Rattle.fleet_jobs.specs.Workers.{release_of}
@@ -139,7 +139,7 @@ ready_after report attempts old new w course merges ready safe result ran stoppe
     ready_with report attempts old new w course merges ready safe result ran stopped e next same (noted new.world.store (noted_after (λ answer. Reports (report answer)) old new w course result ran ready))
 
 -- A worker that runs nothing is ready anywhere.
-pub idle_ready : (number : ℕ) (release : Release) → IsReadyAnywhere (started number release)
+pub idle_ready : (number : ℕ) (release : Release) → IsReadyAnywhere (started_worker number release)
 idle_ready number release view party keeps = record {
   may = record { party = party; keeps = keeps; holds = idle_workers_fit view.who.merge view.world number (release_of release) };
   noted = tt;

@@ -27,7 +27,7 @@ abbrev pub live_parts : List JobParts → ℕ → List AttemptParts → List Att
 live_parts jobs worker attempts = filter (λ a. is_live (jobs_of jobs) worker (attempt_of a)) attempts
 
 -- The live attempt at this job, if there is one.
-abbrev pub live_at : List JobParts → ℕ → List AttemptParts → ℕ → Option AttemptParts
+abbrev pub live_at : (jobs : List JobParts) (worker : ℕ) (attempts : List AttemptParts) (id : ℕ) → Option AttemptParts
 live_at jobs worker attempts id = find (λ a. (a.job == id) && is_live (jobs_of jobs) worker (attempt_of a)) attempts
 
 -- The jobs of the live attempts, and those of the others.

@@ -104,7 +104,8 @@ pub record IsClaimPut (moment : ℕ) (w : WorkerParts) (got : VersionedRecords) 
   pub made : ClaimsRecords w.number moment (next_numbers claimed) got.compactions put.value
 
 -- The rest of a claim after its put: it gets the manifest, and the claimed jobs start under it.
-abbrev pub after_put : WorkerOptions → ℕ → LiveWorker → Jobs → List ℕ → Course (StepEnd Claimed)
+abbrev pub after_put : (options : WorkerOptions) (moment : ℕ) (w : LiveWorker) (jobs : Jobs) (stopped : List ℕ)
+    → Course (StepEnd Claimed)
 after_put options moment w jobs stopped = Calls (Plain GetManifest) (λ met. starts_claimed (record {
   release = w.release;
   manifest = met.manifest;

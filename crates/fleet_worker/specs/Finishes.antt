@@ -46,7 +46,7 @@ abbrev pub finish_ends : Outputs → List AttemptParts → Unit {0} → StepEnd 
 finish_ends outputs attempts done = Reports (finished_job outputs (map attempt_of attempts))
 
 -- The end of a step that ended the job of this attempt.
-abbrev pub done_ends : WorkerParts → AttemptParts → Outputs → Unit {0} → StepEnd FinishedJob
+abbrev pub done_ends : (w : WorkerParts) (a : AttemptParts) (outputs : Outputs) (done : Unit {0}) → StepEnd FinishedJob
 done_ends w a outputs done = Reports (finished_job outputs (without_attempts (a.job ∷ []) (live_of w).attempts))
 
 -- The end of the job of the attempt, once it has these tables.
@@ -58,13 +58,14 @@ abbrev pub one_finish : (moment : ℕ) → WorkerParts → AttemptParts → Outp
 one_finish moment w a outputs = end_try moment (live_of w) (attempt_of a) (map table_ids outputs)
 
 -- The try may be made whatever calls of others come in between.
-abbrev pub MayFinish : StoreView → (moment : ℕ) → WorkerParts → AttemptParts → Outputs → Type 0
+abbrev pub MayFinish : (view : StoreView) → (moment : ℕ) → (w : WorkerParts) (a : AttemptParts) (outputs : Outputs)
+    → Type 0
 MayFinish view moment w a outputs = (again : ℕ → Course (StepEnd FinishedJob))
     × IsLawfulCourse view.who view.world (one_finish moment w a outputs again)
 
 -- The end of the job over these records.
-abbrev pub ends_over : (moment : ℕ) → WorkerParts → AttemptParts → Outputs → Option VersionedRecords
-    → (ℕ → Course (StepEnd FinishedJob)) → Course (StepEnd FinishedJob)
+abbrev pub ends_over : (moment : ℕ) → (w : WorkerParts) (a : AttemptParts) (outputs : Outputs)
+    (got : Option VersionedRecords) (again : ℕ → Course (StepEnd FinishedJob)) → Course (StepEnd FinishedJob)
 ends_over moment w a outputs got again =
     ends_job_by moment (live_of w) (attempt_of a) (map table_ids outputs) (option_map records_of got) again
 

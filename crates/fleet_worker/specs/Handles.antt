@@ -27,15 +27,15 @@ use Rattle.fleet_worker.specs.declared.handle.WorkerMessage.TheVariants.{Compact
 -- ---- answers
 
 -- The answer to a message whose step had this result.
-abbrev pub answered : {A : Type 0} → (A → WorkerAnswer) → Result A SlateDBError → Result WorkerAnswer SlateDBError
-answered answer (Ok done) = Ok (answer done)
-answered answer (Err e) = Err e
+abbrev pub answer_of_step : {A : Type 0} → (A → WorkerAnswer) → Result A SlateDBError → Result WorkerAnswer SlateDBError
+answer_of_step answer (Ok done) = Ok (answer done)
+answer_of_step answer (Err e) = Err e
 
 -- A step ran its course, and this is the answer to it.
 pub record StepAnswers {A B : Type 0} (answer : A → WorkerAnswer) (ends : A → StepEnd B)
     (course : Course (StepEnd B)) (old new : StoreView) (result : Result WorkerAnswer SlateDBError) : Type 0 where
   pub done : Result A SlateDBError
-  pub answers : result ≡ answered answer done
+  pub answers : result ≡ answer_of_step answer done
   pub ran : StepRan ends course old new done
 
 -- ---- an attempt that ended

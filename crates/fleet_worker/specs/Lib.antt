@@ -1,9 +1,9 @@
-pub mod Outputs
 pub mod Workers
+pub mod Claims
+pub mod Outputs
 pub mod Releases
 pub mod Beats
 pub mod Held
-pub mod Claims
 pub mod Messages
 pub mod Finishes
 pub mod Finishing

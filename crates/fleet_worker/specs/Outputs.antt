@@ -26,9 +26,9 @@ abbrev pub RunsRange : WorkerParts → (job place : ℕ) → Type 0
 RunsRange w job place = (count : ℕ) × ((ranges_at w.attempts job ≡ Some count) × ((1 ≤ place) × (place ≤ count)))
 
 -- What an output of this range of the attempt is asked with.
-abbrev pub asked : (moment : ℕ) → WorkerParts → AttemptParts → (place : ℕ) → Part → (rows : ℕ)
+abbrev pub asked_output : (moment : ℕ) → WorkerParts → AttemptParts → (place : ℕ) → Part → (rows : ℕ)
     → (refusal : Option (List ℕ)) → OutputAsk
-asked moment w a place part rows refusal = record {
+asked_output moment w a place part rows refusal = record {
   moment = moment;
   worker = live_of w;
   attempt = attempt_of a;
@@ -107,7 +107,7 @@ left_by result job attempts = if is_refusal result then without_parts (job ∷ [
 module _ (moment : ℕ) (w : WorkerParts) (place rows : ℕ) (old new : StoreView) where
   -- If fewer rows are written than asked for, no fold refuses in what is left of the range.
   abbrev pub WritesEnough : AttemptParts → Part → Type 0
-  WritesEnough a part = length (written_rows old (asked moment w a place part rows None)) < rows
+  WritesEnough a part = length (written_rows old (asked_output moment w a place part rows None)) < rows
       → (unwritten old.who.merge old.world.store.tables (attempt_of a) (noted_range part)).whole ≡ true
 
   -- A fold refuses in what is left of the range, and this is the operator's message. If there is no message, no fold
@@ -123,10 +123,12 @@ module _ (moment : ℕ) (w : WorkerParts) (place rows : ℕ) (old new : StoreVie
     pub refusal : Option (List ℕ)
     pub because : IsReason a part result refusal
     pub described : IfOk result (λ answer. IfSome (table_in answer)
-        (λ handle. handle_of handle ≡ describe handle.id (written_rows old (asked moment w a place part rows refusal))))
+        (λ handle. handle_of handle
+        ≡ describe handle.id (written_rows old (asked_output moment w a place part rows refusal))))
     pub ran : StepRan
-        (λ answer. output_ends (written_rows old (asked moment w a place part rows refusal)) next (table_in answer))
-        (output_of old (asked moment w a place part rows refusal)) old new result
+        (λ answer. output_ends (written_rows old (asked_output moment w a place part rows refusal)) next
+        (table_in answer))
+        (output_of old (asked_output moment w a place part rows refusal)) old new result
 
   -- The attempts that the worker runs after this result: those before it, or those of its table.
   abbrev pub next_by : {A : Type 0} → (A → Option SsTableHandle) → AttemptParts → Result A SlateDBError
@@ -166,7 +168,7 @@ OutputsRan moment w place rows old new result job = RanAt moment w place rows ol
     (λ a. next_by moment w place rows old new table_with a result) result job
 
 -- The table is described as it was put, and the attempts are those after it is noted.
-pub record IsTold (w : WorkerParts) (job place : ℕ) (new : StoreView) (table : SsTableHandle)
+pub record HasNoted (w : WorkerParts) (job place : ℕ) (new : StoreView) (table : SsTableHandle)
     (attempts : List AttemptParts) : Type 0 where
   pub attempt : AttemptParts
   pub runs : run_at w.attempts job ≡ Some attempt
@@ -176,4 +178,5 @@ pub record IsTold (w : WorkerParts) (job place : ℕ) (new : StoreView) (table :
 -- So it is if the answer has a table.
 abbrev pub IsAnswered : WorkerParts → (job place : ℕ) → StoreView
     → Result (Option (SsTableHandle × List AttemptParts)) SlateDBError → Type 0
-IsAnswered w job place new result = IfOk result (λ answer. IfSome answer (λ told. IsTold w job place new told.0 told.1))
+IsAnswered w job place new result =
+    IfOk result (λ answer. IfSome answer (λ noted. HasNoted w job place new noted.0 noted.1))

@@ -32,8 +32,8 @@ abbrev pub live_named : List JobParts → ℕ → List AttemptParts → List (�
 live_named jobs worker attempts = named_attempts (live_among jobs worker attempts)
 
 -- The record of a job that waits for a worker again.
-abbrev pub waiting : JobParts → JobParts
-waiting job = record (with_status Scheduled job) { worker = None }
+abbrev pub waiting_record : JobParts → JobParts
+waiting_record job = record (with_status Scheduled job) { worker = None }
 
 -- True if one of these attempts is at the job.
 abbrev pub is_named : List (ℕ × ℕ) → ℕ → Bool
@@ -41,7 +41,7 @@ is_named attempts job = list_any (λ a. a.0 == job) attempts
 
 -- The record of the job, given back if one of these attempts is at it.
 abbrev pub given_back : List (ℕ × ℕ) → JobParts → JobParts
-given_back attempts job = if is_named attempts job.id then waiting job else job
+given_back attempts job = if is_named attempts job.id then waiting_record job else job
 
 -- The records have these jobs of the model, keep the epoch, and describe no other tables.
 pub record MakesRecords (old new : Compactions) (change : model.RecordChange) : Type 0 where

@@ -39,8 +39,8 @@ abbrev pub live_of : WorkerParts → LiveWorker
 live_of w = record { number = w.number; release = release_of w.release; attempts = map attempt_of w.attempts }
 
 -- A worker that has just started runs nothing.
-abbrev pub started : ℕ → Release → WorkerParts
-started number release = record { number = number; release = release; attempts = []; stopped = false }
+abbrev pub started_worker : ℕ → Release → WorkerParts
+started_worker number release = record { number = number; release = release; attempts = []; stopped = false }
 
 -- The attempt at the job that these attempts have, if there is one.
 abbrev pub run_at : List AttemptParts → ℕ → Option AttemptParts

@@ -3,7 +3,7 @@
 ghost use Rattle.std.specs.Prelude.{◌≡◌, ◌<◌, ◌^◌, false};
 ghost use Rattle.std.specs.Bool.{OnFalse};
 ghost use Rattle.fleet_step.specs.Steps.{stops};
-ghost use Rattle.fleet_worker.specs.Handles.{EndFits, LeavesAttempts, LeavesEnded, MessageFits, RunsEnd, RunsMessage, answered};
+ghost use Rattle.fleet_worker.specs.Handles.{EndFits, LeavesAttempts, LeavesEnded, MessageFits, RunsEnd, RunsMessage, answer_of_step};
 ghost use Rattle.fleet_worker.specs.Workers.{IsReady};
 
 use crate::{BeatReport, ClaimReport, Worker};
@@ -57,7 +57,7 @@ fn answered(
     done: Result<(), SlateDBError>,
     answer: WorkerAnswer,
 ) -> Result<WorkerAnswer, SlateDBError>
-    ensures { result ≡ answered (λ nothing. answer) done }
+    ensures { result ≡ answer_of_step (λ nothing. answer) done }
 {
     match done {
         Ok(()) => Ok(answer),
@@ -67,7 +67,7 @@ fn answered(
 
 // The answer of a claim.
 fn claim_answered(done: Result<ClaimReport, SlateDBError>) -> Result<WorkerAnswer, SlateDBError>
-    ensures { result ≡ answered WorkerAnswer.Claimed done }
+    ensures { result ≡ answer_of_step WorkerAnswer.Claimed done }
 {
     match done {
         Ok(report) => Ok(WorkerAnswer::Claimed(report)),
@@ -77,7 +77,7 @@ fn claim_answered(done: Result<ClaimReport, SlateDBError>) -> Result<WorkerAnswe
 
 // The answer of a heartbeat.
 fn beat_answered(done: Result<BeatReport, SlateDBError>) -> Result<WorkerAnswer, SlateDBError>
-    ensures { result ≡ answered WorkerAnswer.Beat done }
+    ensures { result ≡ answer_of_step WorkerAnswer.Beat done }
 {
     match done {
         Ok(report) => Ok(WorkerAnswer::Beat(report)),

@@ -22,7 +22,7 @@ ghost use Rattle.fleet_worker.specs.Held.{all_held};
 ghost use Rattle.fleet_worker.specs.Messages.{IsReturnOf, StaysReady, attempt_with, gone_ends, one_return, runs_then, went_on};
 ghost use Rattle.fleet_worker.specs.Releases.{IsReleaseOf, is_over, one_release};
 ghost use Rattle.fleet_step.specs.Steps.{StepRan, TryRan, stops};
-ghost use Rattle.fleet_worker.specs.Workers.{AreNoted, IsReady, IsReadyAnywhere, attempt_of, live_of, ranges_at, run_at, run_of_number, started};
+ghost use Rattle.fleet_worker.specs.Workers.{AreNoted, IsReady, IsReadyAnywhere, attempt_of, live_of, ranges_at, run_at, run_of_number, started_worker};
 
 use crate::RunAttempt;
 use crate::attempt::{
@@ -76,7 +76,7 @@ impl Model for Worker {
 impl Worker {
     /// Starts a worker of this release with this number. It runs nothing yet.
     pub fn start(alloc: Global, id: u64, release: Release) -> Worker
-        ensures starts { result ≡ started id release }
+        ensures starts { result ≡ started_worker id release }
         ensures ready { IsReadyAnywhere result }
     {
         Worker {

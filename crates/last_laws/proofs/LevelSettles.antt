@@ -19,7 +19,7 @@ use Rattle.course_laws.proofs.Calls.{all_take, filtered}
 use Rattle.coordinator_laws.proofs.PollReports.{got_jobs}
 use Rattle.coordinator_laws.proofs.Stages.{opened_added}
 use Rattle.sched_model.specs.Levels.{LevelOptions, are_allowed, is_within, level_scheduler}
-use Rattle.sched_laws.specs.Polls.{AcceptsItsOwn, AreDrawn, PollStands, polled}
+use Rattle.sched_laws.specs.Polls.{AcceptsItsOwn, AreDrawn, PollStands, polled_state}
 use Rattle.sched_laws.proofs.Polls.{polls_accept_levels}
 use Rattle.line_laws.specs.Lines.PollRuns.{input_at, reached_state}
 use Rattle.last_laws.specs.Weights.{IsHeavy}
@@ -158,7 +158,7 @@ module _ (o : LevelOptions) (allowed : are_allowed o ≡ true) (most : ℕ) (mer
   adds : Adds committed.jobs committed with_added
   adds = adds_all committed.jobs 1 drawn committed (ap (λ (added : List (ℕ × JobSpec)). with_new added committed.jobs) (sym none_yet.0)) heavy (subst (AllByRecursion (λ (q : ℕ × JobSpec). IsHeavy q.1)) (sym none_yet.0) tt)
 
-  polled_ended : polled input drawn ≡ ended
+  polled_ended : polled_state input drawn ≡ ended
   polled_ended = ap (λ (p : PollState). open_submitted input (add_drawn 1 drawn p)) asked
 
   reached : reached_state ask store drawn ≡ ended

@@ -6,12 +6,13 @@ use Rattle.fleet_model.specs.TreeScans.{flushed_scan}
 use Rattle.script_model.specs.Lines.Scans.{Page, first_page, StopsBefore, keys_between}
 
 -- The page of a scan of a segment from the one key on and before the other, up to the limit.
-abbrev pub scanned_page : Operator → Store → (segment from to : List ℕ) → ℕ → ℤ → (limit : ℕ) → Page
+abbrev pub scanned_page : (merge : Operator) (store : Store) → (segment from to : List ℕ) → (seq : ℕ) (now : ℤ)
+    → (limit : ℕ) → Page
 scanned_page merge store segment from to seq now limit =
     first_page limit (flushed_scan merge store segment (keys_between from to) seq now)
 
 -- A page and the page that goes on after it, as one page.
-abbrev pub joined_pages : Page → Page → Page
+abbrev pub joined_pages : (first second : Page) → Page
 joined_pages first second = record { pairs = first.pairs ++ second.pairs; ends = second.ends }
 
 -- If a page stops before a key, then this page and the page from that key on are together the page up to the

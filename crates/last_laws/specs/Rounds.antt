@@ -21,7 +21,7 @@ FinishedAll inputs number worker (job ∷ jobs) old new =
 
 -- What a round does after its poll if it goes on. If a job is active, the worker claims jobs and finishes all
 -- that it runs. Otherwise the poll added a job, and the round is over.
-abbrev pub WorkedOn : (active added : Bool) → Inputs → ℕ → ℕ → (old new : State) → Type 0
+abbrev pub WorkedOn : (active added : Bool) → (inputs : Inputs) (number worker : ℕ) → (old new : State) → Type 0
 WorkedOn true added inputs number worker old new =
     WentWell inputs number (ClaimJobs worker) old
     (λ claimed. FinishedAll inputs number worker (jobs_run worker claimed) claimed new)

@@ -47,7 +47,7 @@ use Rattle.script_model.specs.Lines.Starts.{killed_first, start_notes, only_note
 use Rattle.script_model.specs.Lines.Submits.{request_of}
 use Rattle.script_model.specs.Lines.PollLines.{poll_ask}
 use Rattle.script_model.specs.Lines.Sweeps.{by_number, sweep_line}
-use Rattle.script_model.specs.Lines.WorkLines.{worker_options, running, worker_line, without_attempt, output_asked, output_line, finish_asked, finish_line}
+use Rattle.script_model.specs.Lines.WorkLines.{worker_options, parties_running, worker_line, without_attempt, output_asked, output_line, finish_asked, finish_line}
 use Rattle.line_laws.specs.States.{StateKeeps}
 use Rattle.line_laws.specs.Lines.ClaimLines.{taken_in}
 use Rattle.line_laws.specs.Lines.ClaimSettings.{input_in, attempt_in}
@@ -161,7 +161,7 @@ fits_with merge line n s w k own v there = by (n == w.number) refl there
 
 -- A worker goes on with these attempts.
 fits_running : (merge : Operator) (line : Line) (n m : ℕ) (s : State) (w : LiveWorker) (attempts : List Attempt) → StateKeeps merge s → worker_with m s.parties ≡ Some w → (worker_with n s.parties ≡ Some w → m ≡ n → AllByRecursion (HasCome line n s) attempts)
-    → Fits line n s (running w s attempts)
+    → Fits line n s (parties_running w s attempts)
 fits_running merge line n m s w attempts k live own =
     fits_with merge line n s (record w { attempts = attempts }) k (λ same. let number = worker_number m s w live in own (ap (λ (i : ℕ). worker_with i s.parties) (same ∙ sym number) ∙ live) (number ∙ sym same))
 
@@ -319,7 +319,7 @@ work_fits : {A : Type 0} (merge : Operator) (number : ℕ) (line : Line) (n m : 
     → worker_with m s.parties ≡ Some w → EndsSo number (Worker w.number) step s.store P → ((report : A) (left : Store) → P (Reports report) left → AllByRecursion (GoesOn w.attempts) (reported report)) → AllByRecursion (GoesOn w.attempts) refused
     → run_line number s (worker_line w s step spell reported refused) ≡ (answer, new) → Fits line n s new.parties
 work_fits merge number line n m s k w step spell reported refused P answer new live so given back is =
-    step_fits number line n s (Worker w.number) step (λ end. []) spell (λ report. running w s (reported report)) (running w s refused) (without_worker w.number s.parties) P answer new so
+    step_fits number line n s (Worker w.number) step (λ end. []) spell (λ report. parties_running w s (reported report)) (parties_running w s refused) (without_worker w.number s.parties) P answer new so
     (λ report left p. fits_running merge line n m s w (reported report) k live (λ there same. goes_come line n s w there (reported report) (given report left p)))
     (fits_running merge line n m s w refused k live (λ there same. goes_come line n s w there refused back)) (fits_without merge line n w.number s k) is
 
@@ -327,7 +327,7 @@ claim_fits : (merge : Operator) (number n m : ℕ) (s : State) (k : StateKeeps m
     → run_line number s (if_some o (no_such_party s) (λ w. worker_line w s (claim (worker_options s.options) s.moment w) (λ r. claim_reply r.begun r.stopped) (λ r. r.attempts) w.attempts)) ≡ (answer, new) → Fits (ClaimJobs m) n s new.parties
 claim_fits merge number n m s k answer new None live is = reply_fits merge number (ClaimJobs m) n s _ answer new k is
 claim_fits merge number n m s k answer new (Some w) live is =
-    step_fits number (ClaimJobs m) n s (Worker w.number) (claim (worker_options s.options) s.moment w) (λ end. []) (λ r. claim_reply r.begun r.stopped) (λ r. running w s r.attempts) (running w s w.attempts) (without_worker w.number s.parties) (Begins s w) answer new
+    step_fits number (ClaimJobs m) n s (Worker w.number) (claim (worker_options s.options) s.moment w) (λ end. []) (λ r. claim_reply r.begun r.stopped) (λ r. parties_running w s r.attempts) (parties_running w s w.attempts) (without_worker w.number s.parties) (Begins s w) answer new
     (claim_begins number (Worker w.number) s w)
     (λ report left p. fits_running merge (ClaimJobs m) n m s w report.attempts k live (λ there same. old_came merge n m s w k there same report.attempts p))
     (fits_running merge (ClaimJobs m) n m s w w.attempts k live (λ there same. goes_come (ClaimJobs m) n s w there w.attempts (all_goes merge s k m w live))) (fits_without merge (ClaimJobs m) n w.number s k) is

@@ -20,7 +20,7 @@ use Rattle.script_model.specs.LineRuns.{LineEnd, LineCourse, run_line, no_such_p
 use Rattle.script_model.specs.LineCourses.{course_of}
 use Rattle.script_model.specs.LineSteps.{OneCourse}
 use Rattle.script_model.specs.Lines.Settles.{is_ok}
-use Rattle.script_model.specs.Lines.WorkLines.{running, worker_line, heartbeat_line, stop_worker}
+use Rattle.script_model.specs.Lines.WorkLines.{parties_running, worker_line, heartbeat_line, stop_worker}
 use Rattle.line_laws.specs.Lines.BeatLines.{OnlyRecords, with_beaten, BeatRan, BeatsPublish, with_released, StopRan, StopsRelease}
 use Rattle.line_laws.proofs.AloneEnds.{EndsSo, then_so, gets_so, IsLike, put_so, put_left}
 use Rattle.line_laws.proofs.RefusedLines.{worker_number, OfStep, LineEnded, LineStruck, LineEnds, line_ended}
@@ -113,17 +113,17 @@ beats_publish inputs number old new n answer one ok = by (worker_with n old.part
 
     by : (o : Option LiveWorker) → worker_with n old.parties ≡ o → run_line number old (line o) ≡ (answer, new) → BeatRan n old answer new
     by None there is = let same = ap (λ (p : List ℕ × State). p.0) is in absurd (cc (ap is_ok same ∙ ok))
-    by (Some w) there is = at (step_did number old (Worker w.number) (heartbeat old.moment w) (λ r. beat_reply r.beat r.not_owner) (λ r. running w old r.attempts) (running w old w.attempts) (without_worker w.number old.parties) (Beats old.moment w old.store) answer new
+    by (Some w) there is = at (step_did number old (Worker w.number) (heartbeat old.moment w) (λ r. beat_reply r.beat r.not_owner) (λ r. parties_running w old r.attempts) (parties_running w old w.attempts) (without_worker w.number old.parties) (Beats old.moment w old.store) answer new
         (beat_left number (Worker w.number) old.moment w old.store) is ok)
       where
-        at : StepDid (λ (r : Beaten). beat_reply r.beat r.not_owner) (λ r. running w old r.attempts) (Beats old.moment w old.store) answer new → BeatRan n old answer new
+        at : StepDid (λ (r : Beaten). beat_reply r.beat r.not_owner) (λ r. parties_running w old r.attempts) (Beats old.moment w old.store) answer new → BeatRan n old answer new
         at d = record {
           worker = w;
           live = there;
           printed = d.printed ∙ ap (λ (r : Beaten). beat_reply r.beat r.not_owner) d.left.is;
           jobs = d.left.jobs;
           store = d.left.same;
-          runs = ap (worker_with n) d.live ∙ ap (λ (r : Beaten). worker_with n (running w old r.attempts)) d.left.is ∙ found_worker n (record w { attempts = _ }) old.parties (worker_number n old w there);
+          runs = ap (worker_with n) d.live ∙ ap (λ (r : Beaten). worker_with n (parties_running w old r.attempts)) d.left.is ∙ found_worker n (record w { attempts = _ }) old.parties (worker_number n old w there);
         }
 
 -- ---- stops

@@ -1,4 +1,5 @@
 -- A line is refused exactly if a cause of its kind holds.
+use Rattle.std.specs.Option.{option_or}
 use Rattle.std.proofs.Common.{◌≡◌, refl, sym, ◌∙◌, ap, subst, ℕ, zero, suc, List, [], ◌∷◌, ◌++◌, cond, Bool, true, false, Option, Some, None, ℤ}
 use Rattle.std.specs.Prelude.{⊤, ◌==◌, ◌||◌, codes, decimal, is_some, nat_lt, option_map, filter}
 use Rattle.row_model.specs.Ranges.{Range}
@@ -43,11 +44,11 @@ use Rattle.script_model.specs.Lines.Scans.{Page, first_page, keys_between, scan_
 use Rattle.script_model.specs.Lines.Submits.{request_of}
 use Rattle.script_model.specs.Lines.PollLines.{poll_ask}
 use Rattle.script_model.specs.Lines.Sweeps.{by_number}
-use Rattle.script_model.specs.Lines.WorkLines.{worker_options, running, worker_line, without_attempt, output_asked, output_line, finish_asked, finish_line}
+use Rattle.script_model.specs.Lines.WorkLines.{worker_options, parties_running, worker_line, without_attempt, output_asked, output_line, finish_asked, finish_line}
 use Rattle.line_laws.specs.Faults.{calls_made, answer_made}
 use Rattle.line_laws.specs.Ran.{IsStepOf}
 use Rattle.line_laws.specs.Lines.PollCalls.{reached_at}
-use Rattle.line_laws.specs.Lines.Causes.{does_strike, store_fault, no_party, unless_there, first_of, fault_of_flush, bad_flush, no_records, unless_records, generate_refusal, request_refusal, fenced, fence_of, callback, end_refusal, fold_refusal, unless_retained, refusal_of, refusal_by, is_served, RepliesBy, SettleEnds, AllServed, LastRefused, CausesDecide}
+use Rattle.line_laws.specs.Lines.Causes.{does_strike, store_fault, no_party, unless_there, fault_of_flush, bad_flush, no_records, unless_records, generate_refusal, request_refusal, fenced_reply, fence_of, callback, end_refusal, fold_refusal, unless_retained, refusal_of, refusal_by, is_served, RepliesBy, SettleEnds, AllServed, LastRefused, CausesDecide}
 use Rattle.line_laws.specs.Lines.Refused.{HasPutTables}
 use Rattle.line_laws.proofs.AloneEnds.{EndsSo, gets_so, put_so}
 use Rattle.line_laws.proofs.PollCalls.{poll_made}
@@ -166,7 +167,7 @@ flush_made line party moment retention ask store = before (fault_before_get (las
     after None = puts
     after (Some fault) = refl
 
-    before : (o : Option FlushFault) → answer_made line party (unless_bad o (flushes_from moment retention ask 64 false 0)) store ≡ flush_end (first_of o (fault_after_get m ask))
+    before : (o : Option FlushFault) → answer_made line party (unless_bad o (flushes_from moment retention ask 64 false 0)) store ≡ flush_end (option_or o (fault_after_get m ask))
     before None = after (fault_after_get m ask)
     before (Some fault) = refl
 
@@ -214,7 +215,7 @@ request_by_scheduler line party moment asked request spell store = by store.reco
 poll_by_epochs : (line : ℕ) (party : Party) (ask : PollAsk) (spell : PollState → List ℕ) (store : Store) → EndsBy spell (fence_of ask.epoch store) (answer_made line party (poll ask) store)
 poll_by_epochs line party ask spell store = subst (EndsBy spell (fence_of ask.epoch store)) (sym (poll_made line party ask store).answer_is) (by (nat_lt ask.epoch store.manifest.epoch) (nat_lt ask.epoch (records_or_none store.records).epoch))
   where
-    by : (b c : Bool) → EndsBy spell (cond b (Some (fenced store.manifest.epoch)) (cond c (Some (fenced (records_or_none store.records).epoch)) None)) (cond b (Fenced store.manifest.epoch) (cond c (Fenced (records_or_none store.records).epoch) (Reports (reached_at ask store))))
+    by : (b c : Bool) → EndsBy spell (cond b (Some (fenced_reply store.manifest.epoch)) (cond c (Some (fenced_reply (records_or_none store.records).epoch)) None)) (cond b (Fenced store.manifest.epoch) (cond c (Fenced (records_or_none store.records).epoch) (Reports (reached_at ask store))))
     by true c = refl
     by false true = refl
     by false false = tt
@@ -299,7 +300,7 @@ of_worker : {A : Type 0} (number : ℕ) (line : Line) (s : State) (o : Option Li
     → ((w : LiveWorker) → EndsSo number (Worker w.number) (step w) s.store Reported) → RepliesBy line (unless_there o) (reply_of number s (if_some o (no_such_party s) (λ w. worker_line w s (step w) spell reported w.attempts)))
 of_worker number line s o step spell reported okay so =
     of_party number line s o (λ w. worker_line w s (step w) spell reported w.attempts)
-    (λ w. step_replies number line s (Worker w.number) (step w) (λ end. []) spell (λ report. running w s (reported report)) (running w s w.attempts) (without_worker w.number s.parties) None okay (always number (Worker w.number) (step w) spell s.store (so w)))
+    (λ w. step_replies number line s (Worker w.number) (step w) (λ end. []) spell (λ report. parties_running w s (reported report)) (parties_running w s w.attempts) (without_worker w.number s.parties) None okay (always number (Worker w.number) (step w) spell s.store (so w)))
 
 -- The line of a poll.
 of_poll : (inputs : Inputs) (number : ℕ) (line : Line) (commits_only : Bool) (spell : PollState → List ℕ) (n : ℕ) (s : State) (o : Option LiveCoordinator) → ((report : PollState) → is_served line (spell report) ≡ true)
@@ -315,7 +316,7 @@ of_output : (inputs : Inputs) (number n job place rows : ℕ) (message : Option 
     → RepliesBy (Output n job place rows) (if_some o (Some no_party) (λ found. end_refusal message true)) (reply_of number s (if_some o (no_such_party s) (λ found. output_line inputs s (output_asked s place rows message found))))
 of_output inputs number n job place rows message s None = refl
 of_output inputs number n job place rows message s (Some q) =
-    step_replies number (Output n job place rows) s (Worker q.0.number) (output inputs.merge s.store.tables (output_asked s place rows message q)) (λ end. []) spell (λ r. running q.0 s r.attempts) (running q.0 s (without_attempt q.0 q.1)) (without_worker q.0.number s.parties)
+    step_replies number (Output n job place rows) s (Worker q.0.number) (output inputs.merge s.store.tables (output_asked s place rows message q)) (λ end. []) spell (λ r. parties_running q.0 s r.attempts) (parties_running q.0 s (without_attempt q.0 q.1)) (without_worker q.0.number s.parties)
     (end_refusal message true) said (output_by number (Worker q.0.number) inputs.merge s.store.tables (output_asked s place rows message q) spell s.store)
   where
     spell : Written → List ℕ
@@ -333,7 +334,7 @@ of_finish : (inputs : Inputs) (number n job : ℕ) (message : Option (List ℕ))
     → RepliesBy (FinishJob n job) (if_some o (Some no_party) (λ found. end_refusal message (is_live (stored_jobs s.store) found.0.number found.1))) (reply_of number s (if_some o (no_such_party s) (λ found. finish_line inputs s (finish_asked s message found))))
 of_finish inputs number n job message s None = refl
 of_finish inputs number n job message s (Some p) =
-    step_replies number (FinishJob n job) s (Worker p.0.number) (finish inputs.merge s.store.tables (finish_asked s message p)) (λ end. []) (λ r. reply (codes "ok" ∷ ranges_text r.outputs ∷ [])) (λ r. running p.0 s r.attempts) (running p.0 s (without_attempt p.0 p.1))
+    step_replies number (FinishJob n job) s (Worker p.0.number) (finish inputs.merge s.store.tables (finish_asked s message p)) (λ end. []) (λ r. reply (codes "ok" ∷ ranges_text r.outputs ∷ [])) (λ r. parties_running p.0 s r.attempts) (parties_running p.0 s (without_attempt p.0 p.1))
     (without_worker p.0.number s.parties) (end_refusal message (is_live (stored_jobs s.store) p.0.number p.1)) (λ report. refl)
     (finish_by number (Worker p.0.number) inputs.merge s.store.tables (finish_asked s message p) (λ r. reply (codes "ok" ∷ ranges_text r.outputs ∷ [])) s.store)
 

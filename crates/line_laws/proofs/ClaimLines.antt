@@ -15,7 +15,7 @@ use Rattle.script_model.specs.Replies.{claim_reply}
 use Rattle.script_model.specs.LineRuns.{run_line, no_such_party, if_some, LineCourse}
 use Rattle.script_model.specs.LineCourses.{course_of}
 use Rattle.script_model.specs.LineSteps.{OneCourse}
-use Rattle.script_model.specs.Lines.WorkLines.{worker_options, running, worker_line, claim_line}
+use Rattle.script_model.specs.Lines.WorkLines.{worker_options, parties_running, worker_line, claim_line}
 use Rattle.script_model.specs.Lines.Settles.{is_ok}
 use Rattle.line_laws.specs.Lines.ClaimLines.{begun_in, ClaimRan, ClaimsTake}
 use Rattle.line_laws.proofs.Lines.{caller_of, world_of}
@@ -43,7 +43,7 @@ claims_take inputs old new n answer c ok = by (worker_with n old.parties) refl (
     by (Some w) live is =
         let who : Caller = caller_of inputs.merge c.number (Worker w.number) in
         let step = claim (worker_options old.options) old.moment w in
-        let r = step_reported inputs.merge c.number old (Worker w.number) step (λ (r : Claimed). claim_reply r.begun r.stopped) (λ (r : Claimed). running w old r.attempts) (running w old w.attempts) (without_worker w.number old.parties) c.keeps answer new is c.had_room ok in
+        let r = step_reported inputs.merge c.number old (Worker w.number) step (λ (r : Claimed). claim_reply r.begun r.stopped) (λ (r : Claimed). parties_running w old r.attempts) (parties_running w old w.attempts) (without_worker w.number old.parties) c.keeps answer new is c.had_room ok in
         let lawful = claims_are_lawful who (world_of inputs.merge old c.keeps) (worker_options old.options) old.moment w (calls_keep inputs.merge c.lawful) c.keeps.fleet.store refl in
         let t = claim_took who (worker_options old.options) old.moment w (world_of inputs.merge old c.keeps) r.left r.report (calls_keep inputs.merge c.lawful) refl (record { kept = c.keeps.fleet.store; lawful = lawful; run = r.run }) in
         record {
@@ -51,5 +51,5 @@ claims_take inputs old new n answer c ok = by (worker_with n old.parties) refl (
           live = live;
           printed = r.printed ∙ ap (λ (begun : List Attempt). claim_reply begun r.report.stopped) t.begun ∙ ap (claim_reply (begun_in old w)) t.stopped;
           jobs = ap stored_jobs (sym r.stored) ∙ t.stored;
-          runs = ap (worker_with n) r.live ∙ ap (λ (attempts : List Attempt). worker_with n (running w old attempts)) t.attempts ∙ found_worker n (record w { attempts = _ }) old.parties (is_worker inputs.merge old c.keeps n w live).number;
+          runs = ap (worker_with n) r.live ∙ ap (λ (attempts : List Attempt). worker_with n (parties_running w old attempts)) t.attempts ∙ found_worker n (record w { attempts = _ }) old.parties (is_worker inputs.merge old c.keeps n w live).number;
         }

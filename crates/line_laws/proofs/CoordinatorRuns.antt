@@ -29,7 +29,7 @@ use Rattle.script_model.specs.Lines.Starts.{killed_first, only_notes, release_na
 use Rattle.script_model.specs.States.{Inputs, State, fresh_state}
 use Rattle.script_model.specs.Lines.Submits.{submits, request_of}
 use Rattle.script_model.specs.Lines.Sweeps.{sweep_line, by_number}
-use Rattle.script_model.specs.Lines.WorkLines.{worker_options, worker_line, running, claim_line, heartbeat_line, output_asked, output_line, finish_asked, finish_line, without_attempt, stop_worker}
+use Rattle.script_model.specs.Lines.WorkLines.{worker_options, worker_line, parties_running, claim_line, heartbeat_line, output_asked, output_line, finish_asked, finish_line, without_attempt, stop_worker}
 use Rattle.line_laws.specs.Alone.{HadRoom}
 use Rattle.line_laws.specs.Live.{CoordinatorsAreLive, LiveCoordinators}
 use Rattle.line_laws.specs.Ran.{StepsRan}
@@ -43,7 +43,7 @@ use Rattle.line_laws.proofs.Scripts.{fresh_state_keeps, line_leads, run_leads, s
 work_line : {A : Type 0} (number : ℕ) (s : State) (w : LiveWorker) (step : Course (StepEnd A)) (spell : A → List ℕ) (reported : A → List Attempt) (refused : List Attempt) (answer : List ℕ) (new : State) → run_line number s (worker_line w s step spell reported refused) ≡ (answer, new) → CoordinatorsAreLive s
     → CoordinatorsAreLive new
 work_line number s w step spell reported refused answer new is live =
-    noted_other number s (Worker w.number) step (λ end. []) spell (λ report. running w s (reported report)) (running w s refused) (without_worker w.number s.parties) answer new is tt (λ report. refl) refl refl live
+    noted_other number s (Worker w.number) step (λ end. []) spell (λ report. parties_running w s (reported report)) (parties_running w s refused) (without_worker w.number s.parties) answer new is tt (λ report. refl) refl refl live
 
 kill_live : (number n : ℕ) (s : State) (answer : List ℕ) (new : State) → run_line number s (kill_worker n s) ≡ (answer, new) → CoordinatorsAreLive s → CoordinatorsAreLive new
 kill_live number n s answer new is live = by (worker_with n s.parties) is

@@ -15,7 +15,7 @@ use Rattle.script_model.specs.Refusals.{FinishMay}
 use Rattle.script_model.specs.LineRuns.{run_line, no_such_party, if_some, LineCourse}
 use Rattle.script_model.specs.LineCourses.{course_of, job_at}
 use Rattle.script_model.specs.LineSteps.{OneCourse}
-use Rattle.script_model.specs.Lines.WorkLines.{running, without_attempt, finish_asked, finish_line}
+use Rattle.script_model.specs.Lines.WorkLines.{parties_running, without_attempt, finish_asked, finish_line}
 use Rattle.script_model.specs.Lines.Settles.{is_ok}
 use Rattle.line_laws.specs.Lines.FinishLines.{FinishRan, FinishesEnd}
 use Rattle.line_laws.proofs.Lines.{caller_of, world_of}
@@ -48,7 +48,7 @@ finishes_end inputs old new n job answer c ok = by c.course.does.refusal (job_at
         let at = is_attempt inputs.merge old c.keeps n job p there in
         let ask = finish_asked old refusal p in
         let step = finish inputs.merge old.store.tables ask in
-        let r = step_reported inputs.merge c.number old (Worker w.number) step spell (λ (r : FinishedJob). running w old r.attempts) (running w old (without_attempt w a)) (without_worker w.number old.parties) c.keeps answer new is c.had_room ok in
+        let r = step_reported inputs.merge c.number old (Worker w.number) step spell (λ (r : FinishedJob). parties_running w old r.attempts) (parties_running w old (without_attempt w a)) (without_worker w.number old.parties) c.keeps answer new is c.had_room ok in
         let keep = calls_keep inputs.merge c.lawful in
         let lawful = finishes_are_lawful who (world_of inputs.merge old c.keeps) ask keep c.lawful refl c.keeps.fleet.store at.holds at.runs (whole_unless inputs old w a refusal may) in
         let f = finish_did who old.store.tables ask (world_of inputs.merge old c.keeps) r.left r.report keep refl (record { kept = c.keeps.fleet.store; lawful = lawful; run = r.run }) in
@@ -61,5 +61,5 @@ finishes_end inputs old new n job answer c ok = by c.course.does.refusal (job_at
           printed = r.printed ∙ ap (λ (outputs : List (List ℕ)). reply (codes "ok" ∷ ranges_text outputs ∷ [])) f.end.outputs_are;
           jobs = ap stored_jobs (sym r.stored) ∙ f.end.jobs;
           manifest = ap (λ (store : Store). store.manifest) (sym r.stored) ∙ f.end.manifest;
-          runs = ap (worker_with n) r.live ∙ ap (λ (attempts : List Attempt). worker_with n (running w old attempts)) f.end.attempts ∙ found_worker n (record w { attempts = _ }) old.parties at.number;
+          runs = ap (worker_with n) r.live ∙ ap (λ (attempts : List Attempt). worker_with n (parties_running w old attempts)) f.end.attempts ∙ found_worker n (record w { attempts = _ }) old.parties at.number;
         }

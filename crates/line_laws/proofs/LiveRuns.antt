@@ -34,7 +34,7 @@ use Rattle.step_model.specs.Entries.{last_name}
 use Rattle.fleet_model.specs.Sweeps.{pinned_tables}
 use Rattle.script_model.specs.Lines.Submits.{submits, request_of}
 use Rattle.script_model.specs.Lines.Sweeps.{sweep_line, by_number}
-use Rattle.script_model.specs.Lines.WorkLines.{worker_options, worker_line, running, claim_line, heartbeat_line, output_asked, output_line, finish_asked, finish_line, without_attempt, stop_worker}
+use Rattle.script_model.specs.Lines.WorkLines.{worker_options, worker_line, parties_running, claim_line, heartbeat_line, output_asked, output_line, finish_asked, finish_line, without_attempt, stop_worker}
 use Rattle.line_laws.specs.Lines.PollRuns.{Answered, entry_of}
 use Rattle.line_laws.specs.Faults.{calls_made, answer_made, struck_answer}
 use Rattle.line_laws.specs.Live.{LiveWorkers}
@@ -104,7 +104,7 @@ step_work {A} number s w step spell reported refused answer new is quiet there l
     work_line number s w (then_course step (λ end. Ends (ends end))) answer new is (quiet_then step ends quiet) (parties_of (answer_made number (Worker w.number) step s.store) (then_ends number (Worker w.number) step ends s.store).answer_is) there live
   where
     ends : StepEnd A → LineEnd
-    ends = line_end spell (λ report. running w s (reported report)) (running w s refused)
+    ends = line_end spell (λ report. parties_running w s (reported report)) (parties_running w s refused)
 
     parties_of : (end : StepEnd A) → answer_made number (Worker w.number) (then_course step (λ end. Ends (ends end))) s.store ≡ ends end
         → (attempts : List Attempt) × ((answer_made number (Worker w.number) (then_course step (λ end. Ends (ends end))) s.store).parties ≡ with_worker (record w { attempts = attempts }) s.parties)

@@ -30,7 +30,7 @@ use Rattle.script_model.specs.Refusals.{FinishMay}
 use Rattle.script_model.specs.LineRuns.{run_line, no_such_party, if_some, LineCourse}
 use Rattle.script_model.specs.LineCourses.{course_of, job_at}
 use Rattle.script_model.specs.LineSteps.{OneCourse}
-use Rattle.script_model.specs.Lines.WorkLines.{running, without_attempt, finish_asked, finish_line}
+use Rattle.script_model.specs.Lines.WorkLines.{parties_running, without_attempt, finish_asked, finish_line}
 use Rattle.script_model.specs.Lines.Settles.{is_ok}
 use Rattle.line_laws.specs.Lines.CommittedTables.{outputs_named, BeginWith, FinishNamed, FinishesName}
 use Rattle.line_laws.proofs.Lines.{caller_of, world_of}
@@ -113,7 +113,7 @@ finishes_name inputs old new n job answer c ok = by c.course.does.refusal (job_a
         let at = is_attempt inputs.merge old c.keeps n job p there in
         let ask = finish_asked old refusal p in
         let step = finish inputs.merge old.store.tables ask in
-        let r = step_reported inputs.merge c.number old (Worker w.number) step spell (λ (r : FinishedJob). running w old r.attempts) (running w old (without_attempt w a)) (without_worker w.number old.parties) c.keeps answer new is c.had_room ok in
+        let r = step_reported inputs.merge c.number old (Worker w.number) step spell (λ (r : FinishedJob). parties_running w old r.attempts) (parties_running w old (without_attempt w a)) (without_worker w.number old.parties) c.keeps answer new is c.had_room ok in
         let keep = calls_keep inputs.merge c.lawful in
         let whole = whole_unless inputs old w a refusal may in
         let lawful = finishes_are_lawful who world ask keep c.lawful refl c.keeps.fleet.store at.holds at.runs whole in

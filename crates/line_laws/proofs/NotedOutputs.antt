@@ -19,7 +19,7 @@ use Rattle.script_model.specs.LineRuns.{LineCourse, run_line, no_such_party, if_
 use Rattle.script_model.specs.LineCourses.{course_of, range_at}
 use Rattle.script_model.specs.LineSteps.{OneCourse}
 use Rattle.script_model.specs.Lines.Settles.{is_ok}
-use Rattle.script_model.specs.Lines.WorkLines.{running, without_attempt, output_asked, output_line}
+use Rattle.script_model.specs.Lines.WorkLines.{parties_running, without_attempt, output_asked, output_line}
 use Rattle.line_laws.specs.Lines.CommittedTables.{put_by, rows_of, after_output, OutputRan, OutputsNote}
 use Rattle.line_laws.proofs.AloneEnds.{EndsSo, IsLike, gets_so}
 use Rattle.line_laws.proofs.StepRefusals.{back_so}
@@ -80,7 +80,7 @@ outputs_note inputs number old new n job place rows answer one ok = by one.does.
   where
     by : (refusal : Option (List ℕ)) (o : Option (LiveWorker × Attempt × (Range × List ℕ))) → range_at old n job place ≡ o → run_line number old (outputting inputs old place rows refusal o) ≡ (answer, new) → OutputRan inputs n job place rows old answer new
     by refusal None there is = let same = ap (λ (p : List ℕ × State). p.0) is in absurd (cc (ap is_ok same ∙ ok))
-    by refusal (Some q) there is = at (step_did number old (Worker w.number) (output inputs.merge old.store.tables ask) (λ r. output_reply r.table) (λ r. running w old r.attempts) (running w old (without_attempt w a)) (without_worker w.number old.parties)
+    by refusal (Some q) there is = at (step_did number old (Worker w.number) (output inputs.merge old.store.tables ask) (λ r. output_reply r.table) (λ r. parties_running w old r.attempts) (parties_running w old (without_attempt w a)) (without_worker w.number old.parties)
         (Outputs inputs.merge old.store.tables ask old.store) answer new (output_left number (Worker w.number) inputs.merge old.store.tables ask old.store) is ok)
       where
         w : LiveWorker
@@ -92,7 +92,7 @@ outputs_note inputs number old new n job place rows answer one ok = by one.does.
         ask : OutputAsk
         ask = output_asked old place rows refusal q
 
-        at : StepDid (λ (r : Written). output_reply r.table) (λ r. running w old r.attempts) (Outputs inputs.merge old.store.tables ask old.store) answer new → OutputRan inputs n job place rows old answer new
+        at : StepDid (λ (r : Written). output_reply r.table) (λ r. parties_running w old r.attempts) (Outputs inputs.merge old.store.tables ask old.store) answer new → OutputRan inputs n job place rows old answer new
         at d = record {
           worker = w;
           attempt = a;
@@ -104,5 +104,5 @@ outputs_note inputs number old new n job place rows answer one ok = by one.does.
           put = d.left.put;
           manifest = d.left.manifest;
           records = d.left.records;
-          runs = ap (worker_with n) d.live ∙ ap (λ (attempts : List Attempt). worker_with n (running w old attempts)) d.left.attempts ∙ found_worker n (record w { attempts = _ }) old.parties (job_number old n job (w, a) (range_job old n job place q there));
+          runs = ap (worker_with n) d.live ∙ ap (λ (attempts : List Attempt). worker_with n (parties_running w old attempts)) d.left.attempts ∙ found_worker n (record w { attempts = _ }) old.parties (job_number old n job (w, a) (range_job old n job place q there));
         }

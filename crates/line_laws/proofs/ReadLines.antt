@@ -17,7 +17,7 @@ use Rattle.script_model.specs.Lines.Looks.{is_not_retained, read_line}
 use Rattle.script_model.specs.LineRuns.{run_line}
 use Rattle.script_model.specs.LineCourses.{course_of}
 use Rattle.script_model.specs.LineSteps.{OneCourse}
-use Rattle.line_laws.specs.Undrained.{flushes_in, undrained}
+use Rattle.line_laws.specs.Undrained.{flushes_in, undrained_flushes}
 use Rattle.line_laws.specs.Lines.ReadLines.{ReadsAnswer}
 
 -- What a read that is not refused asks of the horizon and the tick.
@@ -52,7 +52,7 @@ reads_answer inputs old new segment key seq now answer ran =
     let printed_is : printed (is_not_retained m seq now) ≡ answer = ap (λ (p : List ℕ × State). p.0) is in
     record {
       refused = λ e. sym printed_is ∙ ap printed e;
-      counted = record { past = ran.keeps.past; specs = k.stored.replay.specs; faithful = k.faithful; flushes = undrained old.store.tables k.stored.replay.specs segment old.store.history; are = refl };
+      counted = record { past = ran.keeps.past; specs = k.stored.replay.specs; faithful = k.faithful; flushes = undrained_flushes old.store.tables k.stored.replay.specs segment old.store.history; are = refl };
       flushed = ap (λ (rows : List Row). read inputs.merge key seq now (sorted_rows (rows_of_key key rows))) (rows_of_flushes old.store.tables (tree_at segment m.trees) ∙ ap (flat_map (table_rows old.store.tables)) (ran.keeps.fleet.flushes k.stored.replay.specs k.faithful segment));
       printed = λ e. sym printed_is ∙ ap printed e;
       stored = λ e. let r = is_retained m seq now e in stores_answer_reads inputs.merge old.store ran.keeps.fleet.store.stored segment key seq now r.horizon r.tick;

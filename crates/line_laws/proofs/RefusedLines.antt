@@ -36,7 +36,7 @@ use Rattle.script_model.specs.Lines.Flushes.{flush_line}
 use Rattle.script_model.specs.Lines.Submits.{submit_line, full_line, request_of}
 use Rattle.script_model.specs.Lines.PollLines.{poll_ask, polls}
 use Rattle.script_model.specs.Lines.Sweeps.{by_number, sweep_line}
-use Rattle.script_model.specs.Lines.WorkLines.{worker_options, running, worker_line, stop_worker, without_attempt, output_asked, output_line, finish_asked, finish_line}
+use Rattle.script_model.specs.Lines.WorkLines.{worker_options, parties_running, worker_line, stop_worker, without_attempt, output_asked, output_line, finish_asked, finish_line}
 use Rattle.line_laws.specs.Lines.Refused.{StruckIn, SubmitRefused, struck_parties, RefusedSo, Replied, IsDone, HasNoParty, IsStruck, IsRefused, RefusalsLeave}
 use Rattle.line_laws.proofs.Parties.{found}
 use Rattle.line_laws.proofs.AloneEnds.{EndsSo, then_so, made_so, gets_so, RunEnds, RunStruck, RunEnded, run_ends}
@@ -197,7 +197,7 @@ work_replies : {A : Type 0} (number : ℕ) (line : Line) (n : ℕ) (s : State) (
     → let c = if_some o (no_such_party s) (λ w. worker_line w s (step w) spell reported w.attempts) in run_line number s c ≡ (answer, new) → Replied number line c s answer new
 work_replies number line n s step spell reported answer new same so okay None e is = none_replies number line s answer new is
 work_replies number line n s step spell reported answer new same so okay (Some w) e is =
-    noted_replies number line s (Worker w.number) (step w) (λ end. []) spell (λ report. running w s (reported report)) (running w s w.attempts) (without_worker w.number s.parties) answer new (gone_worker n w.number s (worker_number n s w e) ∙ sym same) (so w) is okay
+    noted_replies number line s (Worker w.number) (step w) (λ end. []) spell (λ report. parties_running w s (reported report)) (parties_running w s w.attempts) (without_worker w.number s.parties) answer new (gone_worker n w.number s (worker_number n s w e) ∙ sym same) (so w) is okay
 
 -- A poll or a commit replies as it may: it is done, has no coordinator, is struck, or is fenced.
 poll_replies : (inputs : Inputs) (number : ℕ) (line : Line) (commits_only : Bool) (spell : PollState → List ℕ) (n : ℕ) (s : State) (answer : List ℕ) (new : State) → struck_parties line s ≡ without_coordinator n s.parties
@@ -275,7 +275,7 @@ output_replies : (inputs : Inputs) (number n job place rows : ℕ) (refusal : Op
     → let c = if_some o (no_such_party s) (λ found. output_line inputs s (output_asked s place rows refusal found)) in run_line number s c ≡ (answer, new) → Replied number (Output n job place rows) c s answer new
 output_replies inputs number n job place rows refusal s answer new None e is = none_replies number (Output n job place rows) s answer new is
 output_replies inputs number n job place rows refusal s answer new (Some q) e is =
-    step_replies number (Output n job place rows) s (Worker w.number) (output inputs.merge s.store.tables (output_asked s place rows refusal q)) (λ r. output_reply r.table) (λ r. running w s r.attempts) (running w s (without_attempt w a)) (without_worker w.number s.parties)
+    step_replies number (Output n job place rows) s (Worker w.number) (output inputs.merge s.store.tables (output_asked s place rows refusal q)) (λ r. output_reply r.table) (λ r. parties_running w s r.attempts) (parties_running w s (without_attempt w a)) (without_worker w.number s.parties)
     (OutputEnds w a s.store) answer new (gone_worker n w.number s (job_number s n job (w, a) ran)) (output_so number (Worker w.number) inputs.merge s.store.tables (output_asked s place rows refusal q) s.store) is handle
   where
     w : LiveWorker
@@ -291,7 +291,7 @@ output_replies inputs number n job place rows refusal s answer new (Some q) e is
     said None = refl
     said (Some table) = refl
 
-    handle : (end : StepEnd Written) → answer ≡ step_reply (λ r. output_reply r.table) end → new.parties ≡ step_parties (λ (r : Written). running w s r.attempts) (running w s (without_attempt w a)) end → OutputEnds w a s.store end new.store
+    handle : (end : StepEnd Written) → answer ≡ step_reply (λ r. output_reply r.table) end → new.parties ≡ step_parties (λ (r : Written). parties_running w s r.attempts) (parties_running w s (without_attempt w a)) end → OutputEnds w a s.store end new.store
         → Replied number (Output n job place rows) (output_line inputs s (output_asked s place rows refusal q)) s answer new
     handle (Reports report) printed parties p = IsDone (ap is_ok printed ∙ said report.table)
     handle (OperatorRefuses message) printed parties p = IsRefused (record { worker = w; attempt = a; ran = ran; message = message; printed = printed; store = p; parties = parties })
@@ -302,7 +302,7 @@ finish_replies : (inputs : Inputs) (number n job : ℕ) (refusal : Option (List 
     → let c = if_some o (no_such_party s) (λ found. finish_line inputs s (finish_asked s refusal found)) in run_line number s c ≡ (answer, new) → Replied number (FinishJob n job) c s answer new
 finish_replies inputs number n job refusal s answer new None e is = none_replies number (FinishJob n job) s answer new is
 finish_replies inputs number n job refusal s answer new (Some p) e is =
-    step_replies number (FinishJob n job) s (Worker w.number) (finish inputs.merge s.store.tables (finish_asked s refusal p)) spell (λ r. running w s r.attempts) (running w s (without_attempt w a)) (without_worker w.number s.parties)
+    step_replies number (FinishJob n job) s (Worker w.number) (finish inputs.merge s.store.tables (finish_asked s refusal p)) spell (λ r. parties_running w s r.attempts) (parties_running w s (without_attempt w a)) (without_worker w.number s.parties)
     (FinishEnds w a s.store) answer new (gone_worker n w.number s (job_number s n job p e)) (finish_so number (Worker w.number) inputs.merge s.store.tables (finish_asked s refusal p) s.store) is handle
   where
     w : LiveWorker
@@ -314,7 +314,7 @@ finish_replies inputs number n job refusal s answer new (Some p) e is =
     spell : FinishedJob → List ℕ
     spell r = reply (codes "ok" ∷ ranges_text r.outputs ∷ [])
 
-    handle : (end : StepEnd FinishedJob) → answer ≡ step_reply spell end → new.parties ≡ step_parties (λ (r : FinishedJob). running w s r.attempts) (running w s (without_attempt w a)) end → FinishEnds w a s.store end new.store
+    handle : (end : StepEnd FinishedJob) → answer ≡ step_reply spell end → new.parties ≡ step_parties (λ (r : FinishedJob). parties_running w s r.attempts) (parties_running w s (without_attempt w a)) end → FinishEnds w a s.store end new.store
         → Replied number (FinishJob n job) (finish_line inputs s (finish_asked s refusal p)) s answer new
     handle (Reports report) printed parties q = IsDone (ap is_ok printed)
     handle (OperatorRefuses message) printed parties q = IsRefused (inl (record { worker = w; attempt = a; ran = e; message = message; printed = printed; store = q; parties = parties }))

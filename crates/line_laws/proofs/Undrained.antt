@@ -30,7 +30,7 @@ use Rattle.step_laws.proofs.RecordsBodies.{faithful_before_records}
 use Rattle.step_laws.proofs.FlushTrees.{rising_from, tree_flushed, new_node}
 use Rattle.rival_laws.proofs.Outcomes.{Outcome, Notes, Deletes, NewTable, NewManifest, NewRecords, outcome, put_manifest}
 use Rattle.rival_laws.proofs.WorkerCalls.{follows_table}
-use Rattle.line_laws.specs.Undrained.{flushes_in, taken_by, without_flushes, left_by, is_drain_step, counted_after, counted_in, counted_from, undrained, FlushesCount}
+use Rattle.line_laws.specs.Undrained.{flushes_in, taken_by, without_flushes, left_by, is_drain_step, counted_after, counted_in, counted_from, undrained_flushes, FlushesCount}
 use Rattle.line_laws.proofs.Courses.{CallsHold}
 use Rattle.line_laws.proofs.Drains.{without_none, commit_flushes}
 
@@ -212,7 +212,7 @@ flushes_hold who merge_lawful keep x strike world kept lawful may one h = by (ou
     same_world : (old : World) → FlushesCount old → (deleted : List ℕ) (jobs_drawn tables_drawn : ℕ) (entry : Entry) → IsMute (stood entry.answer) entry.event → FlushesCount (entered old deleted jobs_drawn tables_drawn entry)
     same_world old count deleted jobs_drawn tables_drawn entry mute specs faithful prefix =
         count specs (faithful_before old specs deleted jobs_drawn tables_drawn entry faithful) prefix
-        ∙ sym (counted_push old.store.tables specs prefix (plain_objects fresh_store) [] old.store.history entry ∙ mute_counts prefix entry _ (undrained old.store.tables specs prefix old.store.history) mute)
+        ∙ sym (counted_push old.store.tables specs prefix (plain_objects fresh_store) [] old.store.history entry ∙ mute_counts prefix entry _ (undrained_flushes old.store.tables specs prefix old.store.history) mute)
 
     by : {new : World} → Outcome who.merge who.party world x new → Keeps who.merge new → FlushesCount new
     by (Notes jobs_drawn tables_drawn entry mute is) next = subst FlushesCount (sym is) (same_world world h world.store.deleted jobs_drawn tables_drawn entry mute)
@@ -227,7 +227,7 @@ flushes_hold who merge_lawful keep x strike world kept lawful may one h = by (ou
         let entry : Entry = record { line = line; party = who.party; event = PutRecords change; answer = answer } in
         subst FlushesCount (sym is) (λ specs faithful prefix.
         h specs (faithful_before_records world specs _ entry faithful) prefix
-        ∙ sym (counted_push world.store.tables specs prefix (plain_objects fresh_store) [] world.store.history entry ∙ either (stood answer) (undrained world.store.tables specs prefix world.store.history)))
+        ∙ sym (counted_push world.store.tables specs prefix (plain_objects fresh_store) [] world.store.history entry ∙ either (stood answer) (undrained_flushes world.store.tables specs prefix world.store.history)))
       where
         either : (b : Bool) (flushes : List ℕ) → cond b flushes flushes ≡ flushes
         either true flushes = refl
@@ -240,7 +240,7 @@ flushes_hold who merge_lawful keep x strike world kept lawful may one h = by (ou
         now : World
         now = with_manifest world (put_manifest world value) entry
 
-        at : (specs : ℕ → JobSpec) → Faithful now specs → (prefix : List ℕ) → flushes_in (tree_at prefix value.trees) ≡ undrained world.store.tables specs prefix (world.store.history ++ entry ∷ [])
+        at : (specs : ℕ → JobSpec) → Faithful now specs → (prefix : List ℕ) → flushes_in (tree_at prefix value.trees) ≡ undrained_flushes world.store.tables specs prefix (world.store.history ++ entry ∷ [])
         at specs faithful prefix =
             let before = faithful_before_manifest who.merge world kept.stored.replay.specs specs (put_manifest world value) entry (whole_of who.merge world kept).body refl faithful in
             let trees : (after_entry world.store.tables specs entry (replayed_objects world.store.tables specs world.store.history (plain_objects fresh_store))).manifest.trees ≡ value.trees =
@@ -248,5 +248,5 @@ flushes_hold who merge_lawful keep x strike world kept lawful may one h = by (ou
             manifest_counts who.merge world who.party change value prefix merge_lawful kept fits
             ∙ ap (counted_after prefix change value.trees) (h specs before prefix)
             ∙ sym (counted_push world.store.tables specs prefix (plain_objects fresh_store) [] world.store.history entry
-            ∙ ap (λ (t : Trees). counted_by prefix entry t (undrained world.store.tables specs prefix world.store.history)) trees
-            ∙ ap (λ (b : Bool). cond b (counted_after prefix change value.trees (undrained world.store.tables specs prefix world.store.history)) (undrained world.store.tables specs prefix world.store.history)) took)
+            ∙ ap (λ (t : Trees). counted_by prefix entry t (undrained_flushes world.store.tables specs prefix world.store.history)) trees
+            ∙ ap (λ (b : Bool). cond b (counted_after prefix change value.trees (undrained_flushes world.store.tables specs prefix world.store.history)) (undrained_flushes world.store.tables specs prefix world.store.history)) took)

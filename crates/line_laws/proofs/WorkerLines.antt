@@ -36,7 +36,7 @@ use Rattle.worker_laws.proofs.Finishes.{finishes_keep_fit}
 use Rattle.script_model.specs.States.{Inputs, State}
 use Rattle.script_model.specs.Replies.{reply, jobs_text, claim_reply, beat_reply, output_reply, ranges_text}
 use Rattle.script_model.specs.LineRuns.{LineEnd, LineCourse, run_line, line_end, step_parties, no_such_party, if_some}
-use Rattle.script_model.specs.Lines.WorkLines.{worker_options, running, worker_line, claim_line, heartbeat_line, stop_worker, without_attempt, output_asked, output_line, finish_asked, finish_line}
+use Rattle.script_model.specs.Lines.WorkLines.{worker_options, parties_running, worker_line, claim_line, heartbeat_line, stop_worker, without_attempt, output_asked, output_line, finish_asked, finish_line}
 use Rattle.script_model.specs.LineCourses.{attempt_numbered, job_at, range_at}
 use Rattle.script_model.specs.Refusals.{left_in, FinishMay}
 use Rattle.line_laws.specs.Alone.{HadRoom}
@@ -65,7 +65,7 @@ is_worker merge s k n w e =
 -- The worker that runs these attempts after the step is live and fits.
 ends_fit : {A : Type 0} (merge : Operator) (number : ℕ) (s : State) (k : StateKeeps merge s) (w : LiveWorker) (reported : A → List Attempt) (refused : List Attempt) (new : World) (end : StepEnd A)
     → Left (caller_of merge number (Worker w.number)) s.parties new → NonePending new.store → (WorkerHolds merge new w → WorkerHolds merge new (record w { attempts = refused }))
-    → FitsAfterwards merge w reported new (Gives end) → FleetKeeps merge new (step_parties (λ (report : A). running w s (reported report)) (running w s refused) end)
+    → FitsAfterwards merge w reported new (Gives end) → FleetKeeps merge new (step_parties (λ (report : A). parties_running w s (reported report)) (parties_running w s refused) end)
 ends_fit merge number s k w reported refused new (Reports report) left none fewer holds = worker_stays merge number (world_of merge s k) new s.parties (record w { attempts = reported report }) k.fleet left none holds
 ends_fit merge number s k w reported refused new end left none fewer holds = worker_stays merge number (world_of merge s k) new s.parties (record w { attempts = refused }) k.fleet left none (fewer holds)
 
@@ -90,7 +90,7 @@ work_keeps {A} merge number s k w step spell reported refused lawful holds fewer
     c = worker_line w s step spell reported refused
 
     ends : StepEnd A → LineEnd
-    ends = line_end spell (λ report. running w s (reported report)) (running w s refused)
+    ends = line_end spell (λ report. parties_running w s (reported report)) (parties_running w s refused)
 
     is : IsLawfulCourse who old c.course
     is = step_lawful who step ends old step_is

@@ -1,14 +1,14 @@
 pub mod Alone
+pub mod Undrained
+pub mod Counts
 pub mod States
 pub mod Scripts
 pub mod Ran
-pub mod Lines
-pub mod Undrained
 pub mod Faults
+pub mod Lines
 pub mod Texts
 pub mod Live
 pub mod Goes
 pub mod WorkedRun
 pub mod AttemptRuns
-pub mod Counts
 pub mod CountsOnce

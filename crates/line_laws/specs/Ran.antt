@@ -30,7 +30,7 @@ pub record CourseRan (inputs : Inputs) (old : State) (line : Line) (answer : Lis
   pub had_room : HadRoom new.store
 
 -- A step that is refused is the last one, and the line replies as the step does.
-abbrev pub StopsIfRefused : List ℕ → List Line → List ℕ → Type 0
+abbrev pub StopsIfRefused : (replied : List ℕ) (others : List Line) (answer : List ℕ) → Type 0
 StopsIfRefused replied others answer = is_ok replied ≡ false → (others ≡ []) × (answer ≡ replied)
 
 -- One course of each of these steps, one after the other, took the old state to the new one. The line
@@ -56,7 +56,7 @@ pub record SettleRan (inputs : Inputs) (old : State) (coordinator worker : ℕ) 
   pub ran : StepsRan inputs old steps answer new
 
 -- A settle line runs its steps, and each other line runs one course.
-abbrev pub LineRan : Inputs → State → Line → List ℕ → State → Type 0
+abbrev pub LineRan : (inputs : Inputs) (old : State) (line : Line) (answer : List ℕ) (new : State) → Type 0
 LineRan inputs old (Settle coordinator worker rounds) answer new = SettleRan inputs old coordinator worker answer new
 LineRan inputs old line answer new = CourseRan inputs old line answer new
 

@@ -25,7 +25,7 @@ taken_by prefix trees (Drain job) spec =
     if bytes_eq prefix spec.segment then flushes_in (source_nodes spec.sources (tree_at prefix trees)) else []
 
 -- These flushes, but for the taken ones.
-abbrev pub without_flushes : List ℕ → List ℕ → List ℕ
+abbrev pub without_flushes : (taken flushes : List ℕ) → List ℕ
 without_flushes taken flushes = filter (λ flush. not (contains taken flush)) flushes
 
 -- What the steps of a commit leave of these flushes of a segment, one step after the other.
@@ -52,7 +52,7 @@ counted_after prefix (Commit steps) trees flushes =
     if list_any is_drain_step steps then filter (contains (flushes_in (tree_at prefix trees))) flushes else flushes
 
 -- Only puts of the manifest change what counts.
-abbrev pub counted_in : List ℕ → Event → Trees → List ℕ → List ℕ
+abbrev pub counted_in : (prefix : List ℕ) (event : Event) (trees : Trees) (flushes : List ℕ) → List ℕ
 counted_in prefix (PutManifest change) trees flushes = counted_after prefix change trees flushes
 counted_in prefix event trees flushes = flushes
 
@@ -65,11 +65,11 @@ counted_from tables specs prefix o flushes (entry ∷ history) =
     (if stood entry.answer then counted_in prefix entry.event after.manifest.trees flushes else flushes) history
 
 -- The flushes of a segment whose puts stood, but for those that a drain took, the last one first.
-abbrev pub undrained : Tables → (ℕ → JobSpec) → List ℕ → List Entry → List ℕ
-undrained tables specs prefix history = counted_from tables specs prefix (plain_objects fresh_store) [] history
+abbrev pub undrained_flushes : (tables : Tables) (specs : ℕ → JobSpec) (prefix : List ℕ) (history : List Entry) → List ℕ
+undrained_flushes tables specs prefix history = counted_from tables specs prefix (plain_objects fresh_store) [] history
 
 -- The nodes of each tree name exactly the undrained flushes of its segment, by any faithful specs.
 abbrev pub FlushesCount : World → Type 0
 FlushesCount world = (specs : ℕ → JobSpec) → Faithful world specs → (prefix : List ℕ)
     → flushes_in (tree_at prefix world.store.manifest.trees)
-    ≡ undrained world.store.tables specs prefix world.store.history
+    ≡ undrained_flushes world.store.tables specs prefix world.store.history

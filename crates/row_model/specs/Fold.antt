@@ -26,7 +26,7 @@ fold merge key e [] = e
 fold merge key e (x ∷ xs) = fold merge key (Some (merge_one merge key e x)) xs
 
 -- Merges operands that are bytes, oldest first, onto an existing value, if there is one.
-abbrev pub fold_bytes : Operator → List ℕ → Option (List ℕ) → List (List ℕ) → Option Outcome
+abbrev pub fold_bytes : (merge : Operator) (key : List ℕ) (e : Option (List ℕ)) (xs : List (List ℕ)) → Option Outcome
 fold_bytes merge key e xs = fold merge key (option_map Merged e) (map Merged xs)
 
 -- An operator is lawful if two things hold. The newest operands `ys` may be folded first, from none, and

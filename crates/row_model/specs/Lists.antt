@@ -9,7 +9,7 @@ Pairs R [] = ⊤
 Pairs R (x ∷ xs) = AllByRecursion (R x) xs × Pairs R xs
 
 -- The first list is a prefix of the second list.
-abbrev pub IsPrefixOf : {A : Type 0} → List A → List A → Type 0
+abbrev pub IsPrefixOf : {A : Type 0} → (xs ys : List A) → Type 0
 IsPrefixOf {A} xs ys = (rest : List A) × (xs ++ rest ≡ ys)
 
 -- Inserts an element in front of the first one that it comes before.

@@ -34,5 +34,5 @@ seen_at s rows = filter (λ r. nat_le r.seq s) rows
 
 -- A read at sequence `s` and moment `now` of one key's rows, newest first. It answers the fold of the
 -- operands over the base, or None if there is neither an operand nor a base.
-abbrev pub read : Operator → List ℕ → ℕ → ℤ → List Row → Option Outcome
+abbrev pub read : (merge : Operator) (key : List ℕ) (s : ℕ) (now : ℤ) (rows : List Row) → Option Outcome
 read merge key s now rows = fold_bytes merge key (base now (seen_at s rows)) (operands now (seen_at s rows))

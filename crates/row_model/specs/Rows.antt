@@ -28,7 +28,7 @@ abbrev pub key_cmp : List ℕ → List ℕ → Ordering
 key_cmp = slice_cmp nat_cmp
 
 -- The order of rows: keys rise, and within a key sequences fall.
-abbrev pub row_cmp : Row → Row → Ordering
+abbrev pub row_cmp : (a b : Row) → Ordering
 row_cmp a b = ordering_then (key_cmp a.key b.key) (nat_cmp b.seq a.seq)
 
 -- Rows are strictly ordered if keys rise, within a key sequences fall, and no two rows have both key and
@@ -42,7 +42,7 @@ are_ordered [] = true
 are_ordered (r ∷ []) = true
 are_ordered (r ∷ q ∷ rows) = is_lt (row_cmp r q) && are_ordered (q ∷ rows)
 
-abbrev pub same_key : Row → Row → Bool
+abbrev pub same_key : (a b : Row) → Bool
 same_key a b = bytes_eq a.key b.key
 
 -- The rows of one key, in their order.

@@ -26,10 +26,12 @@ keys_of [] = []
 keys_of (r ∷ rows) = put_key r.key (keys_of rows)
 
 -- A key with the answer of a read of it. It is None if that read finds nothing.
-abbrev pub key_answer : Operator → ℕ → ℤ → List Row → List ℕ → Option (List ℕ × Outcome)
+abbrev pub key_answer : (merge : Operator) (seq : ℕ) (now : ℤ) (rows : List Row) (key : List ℕ)
+    → Option (List ℕ × Outcome)
 key_answer merge seq now rows key =
     option_map (λ answer. (key, answer)) (read merge key seq now (sorted_rows (rows_of_key key rows)))
 
 -- The answers of a scan: each key of the range that has an answer, with its answer. The keys rise.
-abbrev pub scanned_pairs : Operator → Range → ℕ → ℤ → List Row → List (List ℕ × Outcome)
+abbrev pub scanned_pairs : (merge : Operator) (range : Range) (seq : ℕ) (now : ℤ) (rows : List Row)
+    → List (List ℕ × Outcome)
 scanned_pairs merge range seq now rows = filter_map (key_answer merge seq now rows) (keys_of (rows_in range rows))

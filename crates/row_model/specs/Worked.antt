@@ -24,7 +24,7 @@ abbrev pub settings : ℕ → ℤ → Bool → Settings
 settings cut tick last_run = record { floor = cut; tick = tick; last_run = last_run; cut = cut }
 
 -- Settings whose cut may be below the floor, so that more versions are kept. The job writes the last run.
-abbrev pub settings_under : ℕ → ℕ → Settings
+abbrev pub settings_under : (floor cut : ℕ) → Settings
 settings_under floor cut = record { floor = floor; tick = pos 0; last_run = true; cut = cut }
 
 -- ---- a tombstone above two values
@@ -104,16 +104,16 @@ pub record TheCutKeepsOperands : Type 0 where
 
 -- ---- sizes, blocks and tables
 
-abbrev pub sized : Content → Option ℤ → Row
-sized content created = record { key = codes "hello"; content = content; seq = 0; created = created; expires = None }
+abbrev pub greeting : Content → Option ℤ → Row
+greeting content created = record { key = codes "hello"; content = content; seq = 0; created = created; expires = None }
 
 -- The sizes of rows written with 0, 2 and 4 shared bytes of their key, and the estimated sizes of rows with
 -- and without a creation stamp.
 pub record RowsHaveSizes : Type 0 where
-  pub tombstone : map (encoded_size (sized Tombstone None)) (0 ∷ 2 ∷ 4 ∷ []) ≡ 18 ∷ 16 ∷ 14 ∷ []
-  pub value : map (encoded_size (sized (Value (codes "val")) None)) (0 ∷ 2 ∷ 4 ∷ []) ≡ 25 ∷ 23 ∷ 21 ∷ []
-  pub estimated : estimated_size (sized (Value (codes "val")) None) ≡ 16
-  pub stamped : estimated_size (sized (Value (codes "val")) (Some (pos 7))) ≡ 24
+  pub tombstone : map (encoded_size (greeting Tombstone None)) (0 ∷ 2 ∷ 4 ∷ []) ≡ 18 ∷ 16 ∷ 14 ∷ []
+  pub value : map (encoded_size (greeting (Value (codes "val")) None)) (0 ∷ 2 ∷ 4 ∷ []) ≡ 25 ∷ 23 ∷ 21 ∷ []
+  pub estimated : estimated_size (greeting (Value (codes "val")) None) ≡ 16
+  pub stamped : estimated_size (greeting (Value (codes "val")) (Some (pos 7))) ≡ 24
 
 -- Five rows of ten bytes each.
 abbrev pub five_versions : List Row
@@ -153,13 +153,13 @@ pub record TablesHaveBytes : Type 0 where
 abbrev pub key : ℕ → List ℕ
 key n = 0x6b ∷ n ∷ []
 
-abbrev pub anchor : ℕ → ℕ → Anchor
+abbrev pub anchor : (n bytes : ℕ) → Anchor
 anchor n bytes = record { key = key n; bytes = bytes }
 
 abbrev pub below : ℕ → Range
 below n = record { from = Unbounded; to = Excluded (key n) }
 
-abbrev pub between : ℕ → ℕ → Range
+abbrev pub between : (m n : ℕ) → Range
 between m n = record { from = Included (key m); to = Excluded (key n) }
 
 abbrev pub from : ℕ → Range
@@ -183,7 +183,7 @@ pub record KeysAreCut : Type 0 where
   pub huge : select_boundaries (anchor 0 (2 ^ 63) ∷ anchor 10 (2 ^ 63) ∷ anchor 20 (2 ^ 63) ∷ []) 2 1
       ≡ below 10 ∷ from 10 ∷ []
 
-abbrev pub block : ℕ → ℕ → Block
+abbrev pub block : (n offset : ℕ) → Block
 block n offset = record { first_key = key n; offset = offset }
 
 abbrev pub four_blocks : List Block

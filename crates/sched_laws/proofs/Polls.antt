@@ -29,7 +29,7 @@ use Rattle.commit_laws.proofs.OtherJobs.{in_filtered}
 use Rattle.coordinator_laws.proofs.Gates.{opened_stands}
 use Rattle.coordinator_laws.proofs.Stages.{in_pushed, opened_added}
 use Rattle.course_laws.proofs.Calls.{pairs_filter}
-use Rattle.sched_laws.specs.Polls.{AcceptsItsOwn, AreDrawn, PollStands, polled}
+use Rattle.sched_laws.specs.Polls.{AcceptsItsOwn, AreDrawn, PollStands, polled_state}
 use Rattle.sched_laws.specs.Proposals.{AreApart, HasFreeId}
 use Rattle.sched_laws.specs.Stores.{store_view}
 use Rattle.sched_laws.specs.Views.{ViewStands}
@@ -320,7 +320,7 @@ module _ (merge : Operator) (input : PollInput) (stands : PollStands merge input
       let ended = all_opened input asked.jobs drawn proposed (filter (has_status Submitted) with_added.jobs) with_added opens in
       record {
         lost = ended.lost;
-        refused = all_from _ (polled input drawn).added (λ a there free.
+        refused = all_from _ (polled_state input drawn).added (λ a there free.
             ended.refused a (adds.added a (subst (IsIn a) (opened_added input (filter (has_status Submitted) with_added.jobs) with_added) there)) free);
       }
 

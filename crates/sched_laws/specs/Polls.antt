@@ -30,15 +30,15 @@ pub record AreDrawn (input : PollInput) (drawn : List (ℕ × JobSpec)) : Type 0
   pub new : AllByRecursion (λ d. contains (ids input.records.jobs) d.0 ≡ false) drawn
 
 -- The poll after its last step.
-abbrev pub polled : PollInput → List (ℕ × JobSpec) → PollState
-polled input drawn = open_submitted input (add_drawn 1 drawn (freed_and_committed input))
+abbrev pub polled_state : PollInput → List (ℕ × JobSpec) → PollState
+polled_state input drawn = open_submitted input (add_drawn 1 drawn (freed_and_committed input))
 
 -- The poll loses no Compacted job. It refuses none of the jobs that it adds, unless its destination is
 -- 4,294,967,295.
 pub record AcceptsItsOwn (input : PollInput) (drawn : List (ℕ × JobSpec)) : Type 0 where
-  pub lost : (polled input drawn).lost ≡ []
-  pub refused : AllByRecursion (λ a. HasFreeId a.1 → contains (firsts (polled input drawn).refused) a.0 ≡ false)
-      (polled input drawn).added
+  pub lost : (polled_state input drawn).lost ≡ []
+  pub refused : AllByRecursion (λ a. HasFreeId a.1 → contains (firsts (polled_state input drawn).refused) a.0 ≡ false)
+      (polled_state input drawn).added
 
 -- A poll with the size-tiered scheduler accepts its own jobs. Each passes the gate of submitted jobs as it is
 -- asked, after the jobs that the poll opened, moved or drained before.

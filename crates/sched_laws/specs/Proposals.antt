@@ -41,7 +41,7 @@ abbrev pub HasFreeId : JobSpec → Type 0
 HasFreeId spec = spec.destination ≢ Some 4294967295
 
 -- The nodes of both jobs are apart, unless the destination of one of them is 4,294,967,295.
-abbrev pub AreApart : JobSpec → JobSpec → Type 0
+abbrev pub AreApart : (a b : JobSpec) → Type 0
 AreApart a b = HasFreeId a → HasFreeId b → IsTrue (is_apart (nodes_of a) (nodes_of b))
 
 -- No two proposals hold the same node, unless the destination of one of them is 4,294,967,295.

@@ -73,7 +73,8 @@ run_id (L0 name) = None
 run_id (Run id) = Some id
 
 -- Picks all flushes into the newest run, unless that run is used.
-abbrev pub pick_into_run : List ℕ → List NodeName → NodeName → LevelPicking → LevelPicking
+abbrev pub pick_into_run : (segment : List ℕ) (flushes : List NodeName) (run : NodeName) (p : LevelPicking)
+    → LevelPicking
 pick_into_run segment flushes run p =
     if names_contain p.used run then p
     else with_level_pick (record { segment = segment; sources = flushes ++ run ∷ []; destination = run_id run }) p
@@ -87,7 +88,7 @@ pick_flushes_into o handles segment flushes (run ∷ runs) p =
     else with_fresh_pick segment flushes p
 
 -- Picks the flushes of a tree if they reach the trigger and none of them is used.
-abbrev pub pick_flushes : LevelOptions → List Handle → Segment → LevelPicking → LevelPicking
+abbrev pub pick_flushes : (o : LevelOptions) (handles : List Handle) (s : Segment) (p : LevelPicking) → LevelPicking
 pick_flushes o handles s p =
     let flushes = names (flushes_of s.tree) in
     if nat_le o.l0_trigger (length flushes) && not (list_any (names_contain p.used) flushes)
@@ -95,7 +96,8 @@ pick_flushes o handles s p =
     else p
 
 -- Picks a run into the next older one if the run is above its limit and neither of them is used.
-abbrev pub pick_pair : LevelOptions → List Handle → List ℕ → ℕ → Node → Node → LevelPicking → LevelPicking
+abbrev pub pick_pair : (o : LevelOptions) (handles : List Handle) (segment : List ℕ) (place : ℕ) (run next : Node)
+    (p : LevelPicking) → LevelPicking
 pick_pair o handles segment place run next p =
     if nat_lt (limit o place) (node_size handles run)
     && not (names_contain p.used run.name || names_contain p.used next.name)

@@ -55,13 +55,15 @@ is_taken_again o size (next ∷ older) =
 
 -- True if these sources may be joined into the destination: none of these nodes is used, and the run that is
 -- made would not at once be taken again with the older runs.
-abbrev pub is_allowed : TieredOptions → List NodeName → List NodeName → ℕ → NodeName → List Sized → Bool
+abbrev pub is_allowed : (o : TieredOptions) (used sources : List NodeName) (size : ℕ) (destination : NodeName)
+    (older : List Sized) → Bool
 is_allowed o used sources size destination older =
     is_apart (destination ∷ sources) used && not (is_taken_again o size older)
 
 -- True if the run may be added to the series: it is similar to the least run so far, and the series up to it
 -- may be joined into it.
-abbrev pub may_join : TieredOptions → List NodeName → List Sized → Sized → List Sized → Bool
+abbrev pub may_join : (o : TieredOptions) (used : List NodeName) (series : List Sized) (run : Sized)
+    (older : List Sized) → Bool
 may_join o used series run older =
     let joined = series ++ run ∷ [] in
     is_similar o (least_size series) run && is_allowed o used (run_names joined) (total_size joined) (Run run.id) older

@@ -6,5 +6,5 @@ abbrev pub is_lower_digit : ℕ → Bool
 is_lower_digit c = (nat_le 48 c && nat_le c 57) || (nat_le 97 c && nat_le c 102)
 
 -- The byte is the one at which a text is split.
-abbrev pub is_byte : ℕ → ℕ → Bool
+abbrev pub is_byte : (cut byte : ℕ) → Bool
 is_byte cut byte = byte == cut

@@ -20,7 +20,8 @@ SettleStep false inputs number old coordinator worker rounds answer new =
 -- One line takes the old state to the new one with this reply. Lines are numbered from 1. A settle
 -- line may run several courses, and each other line runs one. Nothing here says what a together line
 -- does, so no run has one.
-abbrev pub LineStep : Inputs → ℕ → State → Line → List ℕ → State → Type 0
+abbrev pub LineStep : (inputs : Inputs) (number : ℕ) (old : State) (line : Line) (answer : List ℕ) (new : State)
+    → Type 0
 LineStep inputs number old (Settle coordinator worker rounds) answer new =
     SettleStep (are_live coordinator worker old) inputs number old coordinator worker rounds answer new
 LineStep inputs number old (Together workers turns) answer new = ⊥

@@ -10,8 +10,8 @@ abbrev pub state_after : (x : ℕ) → ℕ
 state_after x = (x * 6364136223846793005 + 1442695040888963407) % 2 ^ 64
 
 -- The number below k that is drawn in state x. The upper 31 bits of the state after the draw give it.
-abbrev pub drawn : (k x : ℕ) → ℕ
-drawn k x = state_after x / 2 ^ 33 % k
+abbrev pub draw_below : (k x : ℕ) → ℕ
+draw_below k x = state_after x / 2 ^ 33 % k
 
 -- Makes one thing at each of `count` numbers from `first` on. The first is made in state x, and each later one in
 -- the state after the one before it. The second part is the state after the last one.
@@ -27,15 +27,15 @@ made_in_turn make (suc count) first x =
 abbrev pub generated_content : (kind x : ℕ) → Content × ℕ
 generated_content kind x =
     if kind == 3 then (Tombstone, x)
-    else if kind == 2 then (Merge (drawn 256 x ∷ []), state_after x)
-    else (Value (drawn 256 x ∷ []), state_after x)
+    else if kind == 2 then (Merge (draw_below 256 x ∷ []), state_after x)
+    else (Value (draw_below 256 x ∷ []), state_after x)
 
 -- Row t of the flush with this name, and the state after it. Its key byte is drawn first and its kind next. Its
 -- sequence is the flush's name, and it has no stamps.
 unfoldable pub generated_row : (name t x : ℕ) → Row × ℕ
 generated_row name t x =
-    let content = generated_content (drawn 4 (state_after x)) (state_after (state_after x)) in (
-      record { key = (64 * t + drawn 64 x) ∷ []; content = content.0; seq = name; created = None; expires = None },
+    let content = generated_content (draw_below 4 (state_after x)) (state_after (state_after x)) in (
+      record { key = (64 * t + draw_below 64 x) ∷ []; content = content.0; seq = name; created = None; expires = None },
       content.1,
     )
 
@@ -61,14 +61,14 @@ generated_job k =
 unfoldable pub generated_round : (k x : ℕ) → List Line × ℕ
 generated_round k x =
     let flushes = made_in_turn (generated_flush (3 * k)) 3 (3 * k + 1) x in (
-      flushes.0 ++ generated_job k ++ ReadKey [] (drawn 256 flushes.1 ∷ []) (3 * k + 3) (pos 0) ∷ [],
+      flushes.0 ++ generated_job k ++ ReadKey [] (draw_below 256 flushes.1 ∷ []) (3 * k + 3) (pos 0) ∷ [],
       state_after flushes.1,
     )
 
 -- The lines of the generated script: a coordinator and a worker start, and then the rounds follow. The first
 -- state is the number.
-unfoldable pub generated : (number rounds : ℕ) → List Line
-generated number rounds =
+unfoldable pub generated_lines : (number rounds : ℕ) → List Line
+generated_lines number rounds =
     StartCoordinator 1
     ∷ StartWorker 1 None
     ∷ flat_map (λ lines. lines) (made_in_turn generated_round rounds 0 number).0

@@ -90,15 +90,16 @@ step_parties reported refused (Reports report) = reported report
 step_parties reported refused _ = refused
 
 -- The end of a line whose step ends so: its reply, and the parties that are live.
-abbrev pub line_end : {A : Type 0} → (A → List ℕ) → (A → Parties) → Parties → StepEnd A → LineEnd
+abbrev pub line_end : {A : Type 0} → (spell : A → List ℕ) (reported : A → Parties) (refused : Parties) (end : StepEnd A)
+    → LineEnd
 line_end spell reported refused end = record {
   reply = step_reply spell end;
   parties = step_parties reported refused end;
 }
 
 -- A line that does one step of its party and then makes these notes.
-abbrev pub noted_line : {A : Type 0} → Party → Course (StepEnd A) → (StepEnd A → List Event) → (StepEnd A → LineEnd)
-    → Parties → LineCourse
+abbrev pub noted_line : {A : Type 0} → (party : Party) (step : Course (StepEnd A)) (notes : StepEnd A → List Event)
+    (ends : StepEnd A → LineEnd) (struck : Parties) → LineCourse
 noted_line party step notes ends struck = record {
   party = party;
   course = then_course step (λ end. calls_each (notes end) (Ends (ends end)));
@@ -106,5 +107,6 @@ noted_line party step notes ends struck = record {
 }
 
 -- A line that does one step of its party and makes no notes.
-abbrev pub step_line : {A : Type 0} → Party → Course (StepEnd A) → (StepEnd A → LineEnd) → Parties → LineCourse
+abbrev pub step_line : {A : Type 0} → (party : Party) (step : Course (StepEnd A)) (ends : StepEnd A → LineEnd)
+    (struck : Parties) → LineCourse
 step_line party step ends struck = noted_line party step (λ end. []) ends struck

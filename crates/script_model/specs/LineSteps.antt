@@ -8,7 +8,7 @@ use Rattle.script_model.specs.Refusals.{OutputMay, FinishMay}
 
 -- The line may have this refusal of the operator, or none. Only an output and a finish leave a
 -- choice.
-abbrev pub MayRefuse : Inputs → Line → State → Option (List ℕ) → Type 0
+abbrev pub MayRefuse : (inputs : Inputs) (line : Line) (s : State) (refusal : Option (List ℕ)) → Type 0
 MayRefuse inputs (Output n job place rows) s refusal = OutputMay inputs s rows (range_at s n job place) refusal
 MayRefuse inputs (FinishJob n job) s refusal = FinishMay inputs s (job_at s n job) refusal
 MayRefuse inputs line s refusal = refusal ≡ None

@@ -108,7 +108,7 @@ claim_reply claimed stopped =
     ∷ [])
 
 -- The reply to a heartbeat: the jobs that the worker owns, and the jobs that it no longer owns.
-abbrev pub beat_reply : List ℕ → List ℕ → List ℕ
+abbrev pub beat_reply : (beat lost : List ℕ) → List ℕ
 beat_reply beat lost = reply (codes "ok" ∷ codes "beat" ∷ jobs_text beat ∷ codes "notowner" ∷ jobs_text lost ∷ [])
 
 -- The reply to an output: its table with the number of rows, or that no row was left.

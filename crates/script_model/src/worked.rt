@@ -18,7 +18,7 @@ ghost use Rattle.script_model.specs.Examples.WorkedRetention.{horizon_alone, job
 ghost use Rattle.script_model.specs.Examples.WorkedRows.{deleted_key, expiry_classes, fold_before_expiry, no_resurrection, refused_flushes, struck_flush};
 ghost use Rattle.script_model.specs.Examples.WorkedScans.{scanned_pages, scanned_to_refusal};
 ghost use Rattle.script_model.specs.Examples.WorkedSweeps.{struck_sweep, swept, swept_beside_worker};
-ghost use Rattle.script_model.specs.Generated.{generated};
+ghost use Rattle.script_model.specs.Generated.{generated_lines};
 ghost use Rattle.script_model.specs.Script.{script_text};
 
 /// A job compacts a tombstone and two values of a key into the last run, under floor 3. Reads from
@@ -248,5 +248,5 @@ pub fn settled_by_nobody()
 
 /// The script of two rounds that the number 7 makes.
 pub fn generated_from_seven()
-    ensures { script_text (generated 7 2) ≡ concat (map newline generated_from_seven) }
+    ensures { script_text (generated_lines 7 2) ≡ concat (map newline generated_from_seven) }
 {}

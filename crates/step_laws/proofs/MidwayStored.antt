@@ -20,7 +20,7 @@ use Rattle.fleet_model.specs.Past.Replay.{IsReplayed}
 use Rattle.step_model.specs.Kept.Faithful.{AgreesWith, Faithful}
 use Rattle.step_model.specs.Kept.Facts.{StoreFacts}
 use Rattle.step_model.specs.Kept.Keeps.{Keeps}
-use Rattle.step_laws.specs.Midway.{row, run_node, context, spec_of, running, compacted_job, history, midway_world}
+use Rattle.step_laws.specs.Midway.{row, run_node, context, spec_of, running_job, compacted_job, history, midway_world}
 
 pub differ : (a b : ℕ) → (a == b) ≡ false → a ≢ b
 differ a b e same = let yes = (Decides-eqb a b).1 same in absurd (cc (e, yes))
@@ -96,7 +96,7 @@ sound = record {
 claimed : IsClaimed midway_world.store spec_of 1 2 context
 claimed = record { settings = refl; ranges = refl }
 
-fits : (merge : Operator) → ContextFits merge midway_world.store spec_of running context
+fits : (merge : Operator) → ContextFits merge midway_world.store spec_of running_job context
 unfolding planned_ranges
 fits merge = record {
   claimed = claimed;
@@ -106,7 +106,7 @@ fits merge = record {
   tables = ((row (0x62 ∷ 0x32 ∷ []) 2 ∷ [], refl), tt);
 }
 
-contexts : (merge : Operator) → AllByRecursion (JobContext merge midway_world.store spec_of) (running ∷ compacted_job ∷ [])
+contexts : (merge : Operator) → AllByRecursion (JobContext merge midway_world.store spec_of) (running_job ∷ compacted_job ∷ [])
 contexts merge = (
   record { there = (λ h. (refl, refl), λ h. refl); fits = fits merge },
   (record { there = (λ some. absurd (cc some), λ waits. let never = waits.0 in absurd (cc never)); fits = tt }, tt),
@@ -122,13 +122,13 @@ outputs merge = record {
   rows = λ held. refl;
 }
 
-sources : AllByRecursion (OpenedStands midway_world.store) (running ∷ compacted_job ∷ [])
+sources : AllByRecursion (OpenedStands midway_world.store) (running_job ∷ compacted_job ∷ [])
 sources = (
   (λ waits. record { some = refl; stretch = refl; source_tables = refl; destination = (refl, λ none. refl) }, λ finished. absurd (cc finished)),
   ((λ waits. absurd (cc waits), λ waits. inl refl), tt),
 )
 
-held_once : NodesHeldOnce (running ∷ compacted_job ∷ [])
+held_once : NodesHeldOnce (running_job ∷ compacted_job ∷ [])
 held_once = ((λ one other. refl, tt), (tt, tt))
 
 -- ---- reads

@@ -33,8 +33,8 @@ abbrev pub published_table : ℕ
 published_table = drawn_base + 1
 
 -- The id of the table that worker 2 made for job 2.
-abbrev pub made : ℕ
-made = drawn_base + 2
+abbrev pub made_table : ℕ
+made_table = drawn_base + 2
 
 -- The tables that were put, in the order of their puts.
 abbrev pub tables : Tables
@@ -42,14 +42,14 @@ tables =
     (1, row (0x62 ∷ 0x31 ∷ []) 1 ∷ row (0x62 ∷ 0x32 ∷ []) 2 ∷ [])
     ∷ (2, row (0x61 ∷ []) 4 ∷ row (0x61 ∷ []) 3 ∷ [])
     ∷ (published_table, row (0x62 ∷ 0x31 ∷ []) 1 ∷ [])
-    ∷ (made, row (0x61 ∷ []) 4 ∷ [])
+    ∷ (made_table, row (0x61 ∷ []) 4 ∷ [])
     ∷ (3, row (0x61 ∷ []) 5 ∷ [])
     ∷ []
 
 -- ---- jobs
 
 -- The spec of a job that makes a run of one flush.
-abbrev pub spec : List ℕ → ℕ → ℕ → JobSpec
+abbrev pub spec : (segment : List ℕ) (flush id : ℕ) → JobSpec
 spec segment flush id = record { segment = segment; sources = L0 flush ∷ []; destination = Some id }
 
 -- The spec of job 1, or that of job 2 for every other id.
@@ -65,8 +65,8 @@ context = record {
 }
 
 -- The record of job 1, which runs at its second attempt.
-abbrev pub running : Job
-running = record {
+abbrev pub running_job : Job
+running_job = record {
   id = 1;
   spec = spec prefix 1 0;
   status = Running;
@@ -88,13 +88,13 @@ compacted_job = record {
   attempt = 1;
   source_tables = 2 ∷ [];
   context = None;
-  outputs = (made ∷ []) ∷ [];
+  outputs = (made_table ∷ []) ∷ [];
   kept_cut = Some 4;
 }
 
 -- The stored jobs.
 abbrev pub jobs : Jobs
-jobs = running ∷ compacted_job ∷ []
+jobs = running_job ∷ compacted_job ∷ []
 
 -- ---- manifests
 
@@ -116,7 +116,7 @@ twice_flushed_root = record { prefix = []; tree = flush 3 ∷ flush 2 ∷ []; la
 
 -- The run of job 2. It has one of the two rows of flush 2.
 abbrev pub run_node : Node
-run_node = record { name = Run 1; flushes = 2 ∷ []; pieces = made ∷ [] }
+run_node = record { name = Run 1; flushes = 2 ∷ []; pieces = made_table ∷ [] }
 
 -- The root segment after the join. The run has replaced flush 2.
 abbrev pub joined_root : Segment
@@ -161,7 +161,7 @@ past =
 -- ---- the history
 
 -- An entry of the history with these parts.
-abbrev pub entry : ℕ → Party → Event → Answer → Entry
+abbrev pub entry : (line : ℕ) (party : Party) (event : Event) (answer : Answer) → Entry
 entry line party event answer = record { line = line; party = party; event = event; answer = answer }
 
 -- The change of a poll that frees, completes and opens these jobs.
@@ -204,9 +204,9 @@ last_entries =
     ∷ entry 10 (Coordinator 1) (PutRecords (Polled (poll (1 ∷ []) [] []))) (Done 7)
     ∷ entry 11 (Worker 2) (PutRecords (Claim 2 ((1, 2) ∷ []))) (Done 8)
     ∷ entry 11 (Worker 2) GetManifest (Done 4)
-    ∷ entry 12 (Worker 2) (DrawTable made) (Done 0)
-    ∷ entry 12 (Worker 2) (PutTable made 1) (Done 0)
-    ∷ entry 13 (Worker 2) (PutRecords (Finish 2 2 1 ((made ∷ []) ∷ []))) (Done 9)
+    ∷ entry 12 (Worker 2) (DrawTable made_table) (Done 0)
+    ∷ entry 12 (Worker 2) (PutTable made_table 1) (Done 0)
+    ∷ entry 13 (Worker 2) (PutRecords (Finish 2 2 1 ((made_table ∷ []) ∷ []))) (Done 9)
     ∷ entry 14 Writer (PutTable 3 1) (Done 0)
     ∷ entry 14 Writer (PutManifest (Flush 3 [] 5 (pos 0))) (Done 5)
     ∷ entry 15 (Coordinator 1) (PutManifest (Commit (Join 2 ∷ []))) (Done 6)

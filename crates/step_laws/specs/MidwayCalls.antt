@@ -12,17 +12,18 @@ use Rattle.fleet_model.specs.Work.Records.{new_job}
 use Rattle.fleet_model.specs.Exchanges.{Exchange, Plain, DrawsJob, DrawsTable, PutsTable, PutsManifest, PutsRecords}
 use Rattle.step_model.specs.Past.{fresh_world}
 use Rattle.step_model.specs.Rivals.{Caller, RivalCall, RivalsFrom}
-use Rattle.step_laws.specs.Midway.{prefix, published_table, made, tables, spec, context, running, compacted_job, jobs, side, flushed_root, twice_flushed_root, joined_root, manifest, poll, midway_world}
+use Rattle.step_laws.specs.Midway.{prefix, published_table, made_table, tables, spec, context, running_job, compacted_job, jobs, side, flushed_root, twice_flushed_root, joined_root, manifest, poll, midway_world}
 
 -- ---- the jobs that the calls put
 
 -- The lease of a worker whose last heartbeat came at this moment.
-abbrev pub lease : ℕ → ℕ → Option Lease
+abbrev pub lease : (worker moment : ℕ) → Option Lease
 lease worker moment = Some (record { worker = worker; heartbeat = moment })
 
 -- Job 1 since it was opened, with this status, lease, attempt and context.
-abbrev pub one_job : Status → Option Lease → ℕ → Option Context → Job
-one_job status held attempt noted = record running { status = status; lease = held; attempt = attempt; context = noted }
+abbrev pub one_job : (status : Status) (held : Option Lease) (attempt : ℕ) (noted : Option Context) → Job
+one_job status held attempt noted =
+    record running_job { status = status; lease = held; attempt = attempt; context = noted }
 
 -- Job 2 from its opening to its finish, with this status, lease and attempt.
 abbrev pub two : Status → Option Lease → ℕ → Job
@@ -54,11 +55,11 @@ abbrev pub freed_jobs : Jobs
 freed_jobs = one_job Scheduled None 1 (Some context) ∷ two Running (lease 2 700) 1 ∷ []
 
 abbrev pub retaken_jobs : Jobs
-retaken_jobs = running ∷ two Running (lease 2 700) 1 ∷ []
+retaken_jobs = running_job ∷ two Running (lease 2 700) 1 ∷ []
 
 -- The jobs of the put that was lost.
 abbrev pub completed_jobs : Jobs
-completed_jobs = running ∷ record compacted_job { status = Completed } ∷ []
+completed_jobs = running_job ∷ record compacted_job { status = Completed } ∷ []
 
 -- ---- the calls
 
@@ -114,13 +115,13 @@ takeover_calls =
     ∷ call 11 (Worker 2) (PutsRecords 7 (Claim 2 ((1, 2) ∷ [])) 1 retaken_jobs)
     ∷ call 11 (Worker 2) (Plain GetManifest)
     ∷ call 12 (Worker 2) (DrawsTable 0)
-    ∷ call 12 (Worker 2) (table_put made)
+    ∷ call 12 (Worker 2) (table_put made_table)
     ∷ []
 
 -- Worker 2 finishes job 2. Flush 3 comes, the run is joined, and the put of the records is lost.
 abbrev pub last_calls : List RivalCall
 last_calls =
-    call 13 (Worker 2) (PutsRecords 8 (Finish 2 2 1 ((made ∷ []) ∷ [])) 1 jobs)
+    call 13 (Worker 2) (PutsRecords 8 (Finish 2 2 1 ((made_table ∷ []) ∷ [])) 1 jobs)
     ∷ call 14 Writer (table_put 3)
     ∷ call 14 Writer (PutsManifest 4 (Flush 3 [] 5 (pos 0)) (manifest 4 (twice_flushed_root ∷ side ∷ []) 5 0))
     ∷ call 15 (Coordinator 1) (PutsManifest 5 (Commit (Join 2 ∷ [])) (manifest 5 (joined_root ∷ side ∷ []) 5 4))

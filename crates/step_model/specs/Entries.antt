@@ -182,7 +182,7 @@ attempts_in (PutRecords (Finish worker job attempt outputs)) = (job, attempt) �
 attempts_in _ = []
 
 -- True if the attempt is in the list.
-abbrev pub is_in : ℕ → ℕ → List (ℕ × ℕ) → Bool
+abbrev pub is_in : (job attempt : ℕ) (attempts : List (ℕ × ℕ)) → Bool
 is_in job attempt attempts = list_any (λ a. (job == a.0) && (attempt == a.1)) attempts
 
 -- True if the event is a claim of this attempt by this worker.
@@ -191,7 +191,7 @@ is_claim_of worker job attempt (PutRecords (Claim other attempts)) = (worker == 
 is_claim_of worker job attempt _ = false
 
 -- True if a claim of this attempt by this worker took effect.
-abbrev pub was_claimed : List Entry → ℕ → ℕ → ℕ → Bool
+abbrev pub was_claimed : (history : List Entry) (worker job attempt : ℕ) → Bool
 was_claimed history worker job attempt = was_done (is_claim_of worker job attempt) history
 
 -- The attempts that the event claims, if the flag says that the event took effect.

@@ -125,7 +125,7 @@ MayCommit party world (step ∷ steps) =
 
 -- The specs are right for a job that a commit does. A stored job has its own spec. A job that is
 -- not stored has an id that the party drew, and no entry mentions it yet.
-abbrev pub IsKnownTo : Party → World → (ℕ → JobSpec) → ℕ → Type 0
+abbrev pub IsKnownTo : (party : Party) (world : World) (specs : ℕ → JobSpec) (id : ℕ) → Type 0
 IsKnownTo party world specs id = by (job_with id (stored_jobs world.store))
   where
     by : Option Job → Type 0

@@ -46,7 +46,7 @@ abbrev pub IsStoredAs : World → ℕ → (Job → Type 0) → Type 0
 IsStoredAs world id P = OfSome P (job_with id (stored_jobs world.store))
 
 -- The job is Running with this worker at this attempt.
-abbrev pub IsLiveAt : ℕ → ℕ → Job → Type 0
+abbrev pub IsLiveAt : (worker attempt : ℕ) (job : Job) → Type 0
 IsLiveAt worker attempt job = IsTrue (runs_attempt worker attempt (Some job))
 
 -- ---- the epoch, and new jobs
@@ -84,7 +84,7 @@ pub record Publishes (merge : Operator) (party : Party) (world : World) (job : J
   pub own : AllByRecursion (MayUse party world job) (context_tables (Some context))
 
 -- The tables of the contexts that are published for two jobs are apart.
-abbrev pub PublishedApart : Unrecorded → ℕ × ℕ → ℕ × ℕ → Type 0
+abbrev pub PublishedApart : (unrecorded : Unrecorded) (a b : ℕ × ℕ) → Type 0
 PublishedApart unrecorded a b =
     AreApart (context_tables (unrecorded.published a.0)) (context_tables (unrecorded.published b.0))
 

@@ -82,5 +82,5 @@ pub record IsOwnTable (party : Party) (world : World) (id table : ℕ) : Type 0 
   pub unnamed : contains (other_tables id (stored_jobs world.store)) table ≡ false
 
 -- A party may name a table for a job if the job names it already, or if it is the party's own.
-abbrev pub MayUse : Party → World → Job → ℕ → Type 0
+abbrev pub MayUse : (party : Party) (world : World) (job : Job) (table : ℕ) → Type 0
 MayUse party world job table = IsTrue (contains (job_tables job) table) ⊎ IsOwnTable party world job.id table

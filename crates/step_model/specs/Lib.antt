@@ -1,14 +1,14 @@
 pub mod Past
 pub mod Entries
-pub mod Kept
 pub mod LawfulTables
+pub mod Kept
 pub mod LawfulManifests
 pub mod LawfulRecords
 pub mod Lawful
 pub mod Rivals
 pub mod Views
 pub mod Later
+pub mod Courses
 pub mod Steps
 pub mod Fits
-pub mod Courses
 pub mod Worked

@@ -15,7 +15,7 @@ fresh_world = record { store = fresh_store; past = fresh_store.manifest ∷ [] }
 
 -- The past after a call, given the store before and after it. It grows by the manifest that is
 -- stored now, if that manifest has another version than the one before.
-abbrev pub past_after : Store → Store → List Manifest → List Manifest
+abbrev pub past_after : (old new : Store) (past : List Manifest) → List Manifest
 past_after old new past = if old.manifest.version == new.manifest.version then past else past ++ new.manifest ∷ []
 
 -- The world after a call that left this store.

@@ -19,7 +19,7 @@ store_after_call line party x None store = after_answered line party x store
 store_after_call line party x (Some stands) store = struck_by stands line party x store
 
 -- The world after a call.
-abbrev pub after_call : ℕ → Party → Exchange → Strike → World → World
+abbrev pub after_call : (line : ℕ) (party : Party) (x : Exchange) (strike : Strike) (world : World) → World
 after_call line party x strike world = world_after world (store_after_call line party x strike world.store)
 
 -- Only a get or a put may be struck.

@@ -20,6 +20,7 @@ FitsAfterwards merge w attempts new MeetsFault = ⊤
 FitsAfterwards merge w attempts new LacksMemory = WorkerHolds merge new w
 
 -- The worker fits after each run of the course, whatever calls of others come in between.
-abbrev pub FitsAfter : {A : Type 0} → Caller → LiveWorker → (A → List Attempt) → World → Course (StepEnd A) → Type 0
+abbrev pub FitsAfter : {A : Type 0} → (who : Caller) (w : LiveWorker) (attempts : A → List Attempt) (old : World)
+    (course : Course (StepEnd A)) → Type 0
 FitsAfter {A} who w attempts old course = (new : World) (end : End (StepEnd A)) → Runs who course old new end
     → FitsAfterwards who.merge w attempts new end

@@ -22,7 +22,7 @@ IsBeaten world worker a =
 
 -- After a heartbeat that reports, each attempt that the worker runs is live and its context is
 -- published. So the worker keeps no attempt that was not live.
-abbrev pub AllAreBeaten : Caller → LiveWorker → World → ℕ → Type 0
+abbrev pub AllAreBeaten : (who : Caller) (w : LiveWorker) (old : World) (moment : ℕ) → Type 0
 AllAreBeaten who w old moment = (new : World) (report : Beaten)
     → Runs who (heartbeat moment w) old new (Gives (Reports report))
     → AllByRecursion (IsBeaten new w.number) report.attempts

@@ -20,7 +20,7 @@ use Rattle.step_laws.specs.Runs.{CallsKeep}
 use Rattle.course_laws.specs.Afterwards.{ComesAfter}
 
 -- What a claim depends on that got the manifest of this store.
-abbrev pub claim_input : WorkerOptions → ℕ → LiveWorker → Store → ClaimInput
+abbrev pub claim_input : (options : WorkerOptions) (moment : ℕ) (w : LiveWorker) (shown : Store) → ClaimInput
 claim_input options moment w shown = record {
   release = w.release;
   manifest = shown.manifest;
@@ -31,7 +31,7 @@ claim_input options moment w shown = record {
 }
 
 -- The put of the records by which a claim takes these jobs, over the records that it got.
-abbrev pub claim_put : ℕ → LiveWorker → Records → Jobs → Exchange
+abbrev pub claim_put : (moment : ℕ) (w : LiveWorker) (got : Records) (these : Jobs) → Exchange
 claim_put moment w got these =
     let change = Claim w.number (map (λ job. (job.id, job.attempt + 1)) these) in
     PutsRecords got.version change got.epoch (jobs_after (at_moment moment) change got.jobs)

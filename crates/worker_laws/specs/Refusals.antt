@@ -16,7 +16,8 @@ use Rattle.step_laws.specs.Runs.{CallsKeep}
 use Rattle.course_laws.specs.Outputs.{DoesRun}
 
 -- After a run of the course that ends with a refusal of the operator, the attempt is not live.
-abbrev pub GivesBack : {A : Type 0} → Caller → LiveWorker → Attempt → World → Course (StepEnd A) → Type 0
+abbrev pub GivesBack : {A : Type 0} → (who : Caller) (w : LiveWorker) (a : Attempt) (old : World)
+    (course : Course (StepEnd A)) → Type 0
 GivesBack {A} who w a old course = (new : World) (said : List ℕ)
     → Runs who course old new (Gives (OperatorRefuses said)) → is_live (stored_jobs new.store) w.number a ≡ false
 

@@ -45,7 +45,8 @@ pub record FinishRan (who : Caller) (options : WorkerOptions) (moment job : ℕ)
 
 -- Finishes of these jobs, one after the other, took the worker from what it ran in the old world to what it
 -- runs in the new one.
-abbrev pub FinishesRan : Caller → WorkerOptions → ℕ → (jobs : List ℕ) → World → LiveWorker → World → LiveWorker → Type 0
+abbrev pub FinishesRan : (who : Caller) (options : WorkerOptions) (moment : ℕ) → (jobs : List ℕ) → (old : World)
+    (w : LiveWorker) (new : World) (v : LiveWorker) → Type 0
 FinishesRan who options moment [] old w new v = (new ≡ old) × (v ≡ w)
 FinishesRan who options moment (job ∷ jobs) old w new v =
     (mid : World)
@@ -62,7 +63,8 @@ pub record TurnRan (who : Caller) (options : WorkerOptions) (moment : ℕ) (old 
       (after_claim w end) new v
 
 -- Turns at these moments, one after the other.
-abbrev pub TurnsRan : Caller → WorkerOptions → (moments : List ℕ) → World → LiveWorker → World → LiveWorker → Type 0
+abbrev pub TurnsRan : (who : Caller) (options : WorkerOptions) → (moments : List ℕ) → (old : World) (w : LiveWorker)
+    (new : World) (v : LiveWorker) → Type 0
 TurnsRan who options [] old w new v = (new ≡ old) × (v ≡ w)
 TurnsRan who options (moment ∷ moments) old w new v =
     (mid : World)

@@ -18,7 +18,7 @@ use Rattle.fleet_model.specs.Sweeps.{attempt_tables}
 use Rattle.fleet_model.specs.Past.Claimed.{IsClaimed}
 
 -- The tables of each range hold the first rows that the range makes.
-abbrev pub TablesFit : Operator → Tables → List ℕ → Context → Type 0
+abbrev pub TablesFit : (merge : Operator) (tables : Tables) (sources : List ℕ) (context : Context) → Type 0
 TablesFit merge tables sources context =
     AllByRecursion (λ range.
     IsPrefixOf (noted_rows tables range.1) (range_rows merge tables context.settings sources range.0).rows)
@@ -81,7 +81,7 @@ pub record AttemptFits (merge : Operator) (store : Store) (specs : ℕ → JobSp
   pub published : IfSome job.context (λ old. ContextExtends old a.context)
 
 -- The attempt fits the stored job that it names, if that job is stored.
-abbrev pub LiveFits : Operator → Store → (ℕ → JobSpec) → Attempt → Type 0
+abbrev pub LiveFits : (merge : Operator) (store : Store) (specs : ℕ → JobSpec) (a : Attempt) → Type 0
 LiveFits merge store specs a = IfSome (job_with a.job (stored_jobs store)) (λ job. AttemptFits merge store specs job a)
 
 -- Each attempt, live or not, has the context of its claim. The store holds its source tables and its noted

@@ -18,7 +18,7 @@ use Rattle.row_model.specs.Lists.{Pairs}
 use Rattle.fleet_model.specs.Past.Claimed.{settings_of, without_cut}
 
 -- If both jobs hold nodes, they have no node in common.
-abbrev pub HoldApart : Job → Job → Type 0
+abbrev pub HoldApart : (a b : Job) → Type 0
 HoldApart a b = IsTrue (reserves_nodes a) → IsTrue (reserves_nodes b)
     → IsTrue (is_apart (nodes_of a.spec) (nodes_of b.spec))
 

@@ -38,7 +38,7 @@ if_earlier attempt (Some first) = if nat_lt first attempt then first else attemp
 -- The origin of an attempt: the attempt whose claim took its settings and planned its ranges. If the first
 -- attempt that a heartbeat named is an earlier one, its context was taken over, and it is the origin.
 -- Otherwise the origin is the attempt itself.
-abbrev pub origin : List Entry → ℕ → ℕ → ℕ
+abbrev pub origin : (history : List Entry) (job attempt : ℕ) → ℕ
 origin history job attempt = if_earlier attempt (first_beaten job history)
 
 -- True if the second number is there and equals the first.
@@ -123,7 +123,7 @@ noted_plan job attempt (entry ∷ history) =
     option_or (planned_in job attempt entry.event) (noted_plan job attempt history)
 
 -- The ranges of an attempt, which are in the note of its origin.
-abbrev pub ranges_of : List Entry → ℕ → ℕ → Option (List Range)
+abbrev pub ranges_of : (history : List Entry) (job attempt : ℕ) → Option (List Range)
 ranges_of history job attempt = noted_plan job (origin history job attempt) history
 
 -- The settings with 0 as their cut, to be compared with settings that the history gives.

@@ -33,7 +33,7 @@ without_coordinator_of n s = record s { coordinators = filter (λ c. not (n == c
 
 -- The parties after a coordinator gets an object with this epoch. If the epoch is greater than its own, the
 -- coordinator is fenced and no longer live.
-abbrev pub fenced_by : ℕ → ℕ → LiveParties → LiveParties
+abbrev pub fenced_by : (n epoch : ℕ) (s : LiveParties) → LiveParties
 fenced_by n epoch s = if nat_lt (last_epoch n s.coordinators) epoch then without_coordinator_of n s else s
 
 -- The parties after an event of a coordinator. A get may fence it, a put of an epoch that is done gives it

@@ -101,7 +101,7 @@ after_event tables specs (PutRecords change) o = after_record_change change o
 after_event tables specs _ o = o
 
 -- The objects after an entry. Only an event that took effect changes them.
-abbrev pub after_entry : Tables → (ℕ → JobSpec) → Entry → Objects → Objects
+abbrev pub after_entry : (tables : Tables) (specs : ℕ → JobSpec) (entry : Entry) (o : Objects) → Objects
 after_entry tables specs entry o = if stood entry.answer then after_event tables specs entry.event o else o
 
 -- The objects after these entries, taken one after the other.

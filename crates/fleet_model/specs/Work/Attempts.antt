@@ -81,7 +81,8 @@ abbrev pub source_rows : Tables → List ℕ → List Row
 source_rows tables sources = sorted_rows (flat_map (table_rows tables) sources)
 
 -- The rows that a range makes of the source tables under the settings.
-abbrev pub range_rows : Operator → Tables → Settings → List ℕ → Range → JobRows
+abbrev pub range_rows : (merge : Operator) (tables : Tables) (settings : Settings) (sources : List ℕ) (range : Range)
+    → JobRows
 range_rows merge tables settings sources range = job_rows merge settings (rows_in range (source_rows tables sources))
 
 -- The rows in the tables that are noted for a range.
@@ -90,7 +91,8 @@ noted_rows tables noted = flat_map (table_rows tables) noted
 
 -- The rows of a range that an attempt has still to write. They follow as many rows as its noted tables
 -- have.
-abbrev pub rows_left : Operator → Tables → Settings → List ℕ → Range × List ℕ → JobRows
+abbrev pub rows_left : (merge : Operator) (tables : Tables) (settings : Settings) (sources : List ℕ)
+    (range : Range × List ℕ) → JobRows
 rows_left merge tables settings sources range =
     let all = range_rows merge tables settings sources range.0 in
     record { rows = drop (length (noted_rows tables range.1)) all.rows; whole = all.whole }

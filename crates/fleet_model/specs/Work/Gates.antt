@@ -62,7 +62,8 @@ is_free jobs lost job =
 --    runs of all trees.
 -- 8: No other job holds a source or the destination.
 -- 0: The scheduler accepts the job.
-abbrev pub submitted_rules : Trees → Jobs → List ℕ → (JobSpec → Bool) → Job → Tree → List (ℕ × Bool)
+abbrev pub submitted_rules : (trees : Trees) (jobs : Jobs) (lost : List ℕ) (accepts : JobSpec → Bool) (job : Job)
+    (tree : Tree) → List (ℕ × Bool)
 submitted_rules trees jobs lost accepts job tree =
     let spec = job.spec in
     (1, is_nonempty spec.sources && are_distinct spec.sources)
@@ -77,7 +78,7 @@ submitted_rules trees jobs lost accepts job tree =
     ∷ []
 
 -- The number of the first rule that a submitted job fails, or None if the job passes the gate.
-abbrev pub submit_gate : Trees → Jobs → List ℕ → (JobSpec → Bool) → Job → Option ℕ
+abbrev pub submit_gate : (trees : Trees) (jobs : Jobs) (lost : List ℕ) (accepts : JobSpec → Bool) (job : Job) → Option ℕ
 submit_gate trees jobs lost accepts job =
     first_failing (submitted_rules trees jobs lost accepts job (tree_at job.spec.segment trees))
 

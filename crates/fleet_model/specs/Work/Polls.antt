@@ -91,7 +91,7 @@ abbrev pub lost_to_scheduler : List (ℕ × ℕ) → List ℕ
 lost_to_scheduler lost = firsts (filter (λ l. l.1 == 0) lost)
 
 -- Takes a step on the trees that completes the job at once.
-abbrev pub at_once : PollInput → Step → Job → PollState → PollState
+abbrev pub at_once : (input : PollInput) (step : Step) (job : Job) (p : PollState) → PollState
 at_once input step job p = record p {
   trees = stepped_in input.tables step job.spec [] p.trees;
   jobs = changed_jobs to_completed (job.id ∷ []) p.jobs;

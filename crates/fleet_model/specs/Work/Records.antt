@@ -39,7 +39,7 @@ with_new [] jobs = jobs
 with_new (p ∷ specs) jobs = with_new specs (put_job (new_job p) jobs)
 
 -- The job after a claim: it is Running with this worker, and its attempt number is raised by one.
-abbrev pub claimed_by : ℕ → ℕ → Job → Job
+abbrev pub claimed_by : (worker moment : ℕ) (job : Job) → Job
 claimed_by worker moment job = record job {
   status = Running;
   lease = Some (record { worker = worker; heartbeat = moment });
@@ -54,7 +54,7 @@ beaten_by worker unrecorded job = record job {
 }
 
 -- The job after its attempt finished: it is Compacted, with outputs and without a context.
-abbrev pub finished_by : ℕ → Unrecorded → List (List ℕ) → Job → Job
+abbrev pub finished_by : (worker : ℕ) (unrecorded : Unrecorded) (outputs : List (List ℕ)) (job : Job) → Job
 finished_by worker unrecorded outputs job = record job {
   status = Compacted;
   lease = Some (record { worker = worker; heartbeat = unrecorded.moment });

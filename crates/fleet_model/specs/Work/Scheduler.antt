@@ -17,7 +17,7 @@ pub record View : Type 0 where
   pub handles : List Handle
 
 -- The view of a manifest, records and jobs. It shows only the active jobs.
-abbrev pub shown_view : Tables → Manifest → Records → Jobs → View
+abbrev pub shown_view : (tables : Tables) (manifest : Manifest) (records : Records) (jobs : Jobs) → View
 shown_view tables manifest records jobs =
     let active = filter is_active jobs in
     record {

@@ -19,7 +19,7 @@ abbrev pub live_in : State → LiveWorker → List Attempt
 live_in s w = live_attempts (stored_jobs s.store) w
 
 -- Nothing but the records and the history changed in the store.
-abbrev pub OnlyRecords : Store → Store → Type 0
+abbrev pub OnlyRecords : (old new : Store) → Type 0
 OnlyRecords old new = new ≡ record old { records = new.records; history = new.history }
 
 -- The jobs after a heartbeat with these live attempts: their leases are renewed, and their contexts are published.

@@ -1,4 +1,5 @@
 -- The law on causes: a line is refused exactly if a cause of its kind holds, and by the first one that holds.
+use Rattle.std.specs.Option.{option_or}
 use Rattle.std.specs.Prelude.{◌≡◌, ℕ, ◌||◌, nat_lt, nat_eq, Bool, true, false, if◌then◌else◌, List, [], ◌∷◌, Option, Some, None, option_map, codes, decimal}
 use Rattle.std.specs.List.{starts_with}
 use Rattle.row_model.specs.Fold.{Outcome, Merged, Refused}
@@ -48,16 +49,11 @@ abbrev pub unless_there : {A : Type 0} → Option A → Option (List ℕ)
 unless_there None = Some no_party
 unless_there (Some x) = None
 
--- The first of two faults that is there.
-abbrev pub first_of : {A : Type 0} → Option A → Option A → Option A
-first_of None second = second
-first_of (Some x) second = Some x
-
 -- The first fault of a flush over this store: in the name, the segment, the order, the sequences, the floor or the
 -- tick.
 abbrev pub fault_of_flush : FlushAsk → Store → Option FlushFault
 fault_of_flush ask store =
-    first_of (fault_before_get (last_name store.history) ask) (fault_after_get store.manifest ask)
+    option_or (fault_before_get (last_name store.history) ask) (fault_after_get store.manifest ask)
 
 -- The reply to a flush with this fault.
 abbrev pub bad_flush : FlushFault → List ℕ
@@ -85,15 +81,15 @@ request_refusal asked request store =
     (λ got. generate_refusal (asked.generate (shown_view store.tables store.manifest got got.jobs) request))
 
 -- The reply to a poll that met this epoch above the coordinator's.
-abbrev pub fenced : ℕ → List ℕ
-fenced stored = reply (codes "fenced" ∷ decimal stored ∷ [])
+abbrev pub fenced_reply : ℕ → List ℕ
+fenced_reply stored = reply (codes "fenced" ∷ decimal stored ∷ [])
 
 -- A stored epoch is above the coordinator's.
 abbrev pub fence_of : ℕ → Store → Option (List ℕ)
 fence_of epoch store =
-    if nat_lt epoch store.manifest.epoch then Some (fenced store.manifest.epoch)
+    if nat_lt epoch store.manifest.epoch then Some (fenced_reply store.manifest.epoch)
     else (if nat_lt epoch (records_or_none store.records).epoch
-    then Some (fenced (records_or_none store.records).epoch) else None)
+    then Some (fenced_reply (records_or_none store.records).epoch) else None)
 
 -- The coordinator is not live, or it is fenced.
 abbrev pub poll_refusal : ℕ → State → Option (List ℕ)
@@ -110,7 +106,7 @@ end_refusal None true = None
 end_refusal None false = Some (reply (codes "notowner" ∷ []))
 
 -- The worker does not run the job, or its finish is refused.
-abbrev pub finish_refusal : ℕ → ℕ → (message : Option (List ℕ)) → State → Option (List ℕ)
+abbrev pub finish_refusal : (n job : ℕ) → (message : Option (List ℕ)) → (s : State) → Option (List ℕ)
 finish_refusal n job message s =
     if_some (job_at s n job) (Some no_party)
     (λ found. end_refusal message (is_live (stored_jobs s.store) found.0.number found.1))
@@ -160,7 +156,8 @@ refusal_of inputs line message s = None
 
 -- The refusal of a line with this course: the fault strikes one of its calls, or a cause of its kind holds. A line
 -- whose party is missing makes no call.
-abbrev pub refusal_by : Inputs → ℕ → Line → LineCourse → (message : Option (List ℕ)) → State → Option (List ℕ)
+abbrev pub refusal_by : (inputs : Inputs) (number : ℕ) (line : Line) (c : LineCourse) → (message : Option (List ℕ))
+    → (s : State) → Option (List ℕ)
 refusal_by inputs number line c message s =
     if does_strike s.fault (calls_made number c.party c.course s.store) then Some store_fault
     else refusal_of inputs line message s

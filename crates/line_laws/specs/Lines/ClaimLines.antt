@@ -33,7 +33,7 @@ begun_in s w = map (claimed_attempt (record {
 })) (taken_in s w)
 
 -- The stored jobs after a claim of these jobs: each of them runs with the worker at its next attempt.
-abbrev pub with_claimed : ℕ → LiveWorker → Jobs → Jobs → Jobs
+abbrev pub with_claimed : (moment : ℕ) (w : LiveWorker) (these jobs : Jobs) → Jobs
 with_claimed moment w these jobs =
     if is_nonempty these then jobs_after (at_moment moment)
     (Claim w.number (map (λ job. (job.id, job.attempt + 1)) these)) jobs

@@ -75,7 +75,7 @@ puts_of old p = manifest_puts old.manifest p ++ records_puts old.records p
 -- ---- what it leaves
 
 -- The store after a poll's gets and draws.
-abbrev pub store_before : ℕ → Party → Store → List (ℕ × JobSpec) → Store
+abbrev pub store_before : (line : ℕ) (party : Party) (old : Store) (drawn : List (ℕ × JobSpec)) → Store
 store_before line party old drawn = record old {
   jobs_drawn = old.jobs_drawn + length drawn;
   history = old.history ++ map (entry_of line party) (calls_before old drawn);
@@ -96,7 +96,7 @@ records_after records p =
 
 -- The store after a poll that reached this state, with the poll's calls in its history. Nothing else
 -- changed, and if the poll changed nothing, it put nothing.
-abbrev pub store_after : ℕ → Party → Store → List (ℕ × JobSpec) → PollState → Store
+abbrev pub store_after : (line : ℕ) (party : Party) (old : Store) (drawn : List (ℕ × JobSpec)) (p : PollState) → Store
 store_after line party old drawn p = record old {
   manifest = manifest_after old.manifest p;
   records = records_after old.records p;

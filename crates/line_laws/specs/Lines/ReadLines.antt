@@ -12,11 +12,11 @@ use Rattle.script_model.specs.Script.{ReadKey}
 use Rattle.script_model.specs.States.{Inputs, State}
 use Rattle.script_model.specs.Replies.{read_reply, not_retained}
 use Rattle.script_model.specs.Lines.Looks.{is_not_retained}
-use Rattle.line_laws.specs.Undrained.{undrained}
+use Rattle.line_laws.specs.Undrained.{undrained_flushes}
 use Rattle.line_laws.specs.Ran.{CourseRan}
 
 -- The answer of a read over the rows of these flushes.
-abbrev pub read_of : Operator → Tables → List ℕ → List ℕ → ℕ → ℤ → Option Outcome
+abbrev pub read_of : (merge : Operator) (tables : Tables) (flushes key : List ℕ) (seq : ℕ) (now : ℤ) → Option Outcome
 read_of merge tables flushes key seq now =
     read merge key seq now (sorted_rows (rows_of_key key (flat_map (table_rows tables) flushes)))
 
@@ -27,7 +27,7 @@ pub record Counted (s : State) (segment : List ℕ) : Type 0 where
   pub specs : ℕ → JobSpec
   pub faithful : Faithful (record { store = s.store; past = past }) specs
   pub flushes : List ℕ
-  pub are : flushes ≡ undrained s.store.tables specs segment s.store.history
+  pub are : flushes ≡ undrained_flushes s.store.tables specs segment s.store.history
 
 -- A read below the horizon or before the tick is refused. Each other read prints the fold over the rows of
 -- all flushes of its segment whose puts stood and that no drain took, and the tables that are stored read

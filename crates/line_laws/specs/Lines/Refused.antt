@@ -18,7 +18,7 @@ use Rattle.script_model.specs.Replies.{reply}
 use Rattle.script_model.specs.LineRuns.{LineCourse, flush_fault_text}
 use Rattle.script_model.specs.LineCourses.{prepared_state, job_at}
 use Rattle.script_model.specs.Lines.Settles.{is_ok}
-use Rattle.script_model.specs.Lines.WorkLines.{running, without_attempt}
+use Rattle.script_model.specs.Lines.WorkLines.{parties_running, without_attempt}
 use Rattle.script_model.specs.LineSteps.{OneCourse}
 
 -- ---- what a refusal leaves in the store
@@ -115,7 +115,7 @@ pub record CalledBack (n job : ℕ) (old : State) (answer : List ℕ) (new : Sta
   pub message : List ℕ
   pub printed : answer ≡ reply (codes "callback" ∷ bytes_text message ∷ [])
   pub store : IsGivenBack worker.number attempt old.store new.store
-  pub parties : new.parties ≡ running worker old (without_attempt worker attempt)
+  pub parties : new.parties ≡ parties_running worker old (without_attempt worker attempt)
 
 -- The attempt that the worker runs at this job is not live. Its finish put tables, and the worker runs it no more.
 pub record NotOwned (n job : ℕ) (old : State) (answer : List ℕ) (new : State) : Type 0 where
@@ -125,13 +125,13 @@ pub record NotOwned (n job : ℕ) (old : State) (answer : List ℕ) (new : State
   pub printed : answer ≡ reply (codes "notowner" ∷ [])
   pub over : is_live (stored_jobs old.store) worker.number attempt ≡ false
   pub store : HasPutTables old.store new.store
-  pub parties : new.parties ≡ running worker old (without_attempt worker attempt)
+  pub parties : new.parties ≡ parties_running worker old (without_attempt worker attempt)
 
 -- ---- the line
 
 -- What a refusal leaves that is neither a fault nor a missing party, kind by kind. The other kinds of lines have no
 -- such refusal. Reads and scans change nothing, whatever they reply.
-abbrev pub RefusedSo : Line → State → List ℕ → State → Type 0
+abbrev pub RefusedSo : (line : Line) (old : State) (answer : List ℕ) (new : State) → Type 0
 RefusedSo (FlushRows name segment floor tick rows) old answer new = FlushRefused old answer new
 RefusedSo (ReadKey segment key seq now) old answer new = new ≡ old
 RefusedSo (SubmitJob segment destination sources) old answer new = SubmitRefused old answer new

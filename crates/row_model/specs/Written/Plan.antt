@@ -28,7 +28,7 @@ spans end (b ∷ c ∷ bs) = record { key = b.first_key; bytes = c.offset - b.of
 
 -- Puts the blocks of a table into at most `most` groups, where 0 counts as 1. Each group gives an anchor,
 -- unless its first key is outside the range. The last block ends at `end` bytes.
-abbrev pub sample_anchors : List Block → ℕ → ℕ → Range → List Anchor
+abbrev pub sample_anchors : (bs : List Block) (end most : ℕ) (range : Range) → List Anchor
 sample_anchors bs end most range =
     let groups = max most 1 in
     filter (λ a. is_in_range range a.key) (spans end (every ((length bs + groups - 1) / groups) 0 bs))
@@ -60,13 +60,13 @@ abbrev pub smallest_key : List Anchor → List ℕ
 smallest_key [] = []
 smallest_key (a ∷ anchors) = a.key
 
-abbrev pub cut_anchors : ℕ → ℕ → List Anchor → List (List ℕ)
+abbrev pub cut_anchors : (most target : ℕ) (anchors : List Anchor) → List (List ℕ)
 cut_anchors most target anchors = cuts most target 0 0 target (smallest_key anchors) anchors
 
 -- The ranges that the anchors are cut into: at least one, and at most max_ranges if that is positive. The
 -- target is the share of one range in all bytes, but at least min_range_bytes. A range may still have fewer
 -- bytes: after an anchor of many bytes the next threshold may be reached at once.
-abbrev pub select_boundaries : List Anchor → ℕ → ℕ → List Range
+abbrev pub select_boundaries : (anchors : List Anchor) (max_ranges min_range_bytes : ℕ) → List Range
 select_boundaries anchors max_ranges min_range_bytes =
     let total = saturated_sum (sum_by (λ a. a.bytes) anchors) in
     let target = max (total / max_ranges) min_range_bytes in

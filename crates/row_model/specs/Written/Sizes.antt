@@ -46,7 +46,7 @@ abbrev pub or_full : ℕ → ℕ
 or_full filled = if nat_le block_bytes filled then 0 else filled
 
 -- Opens a block at a row if the open block is empty. The later blocks follow.
-abbrev pub block_at : ℕ → ℕ → Row → List Block → List Block
+abbrev pub block_at : (offset filled : ℕ) (r : Row) (later : List Block) → List Block
 block_at offset filled r later = if filled == 0 then record { first_key = r.key; offset = offset } ∷ later else later
 
 abbrev pub blocks_from : ℕ → ℕ → List Row → List Block

@@ -9,7 +9,7 @@ use Rattle.row_model.specs.Written.Sizes.{block_bytes, estimated_size, or_full}
 use Rattle.row_model.specs.Written.Tables.{with_row}
 
 -- The length of the longest prefix that two keys have in common.
-abbrev pub shared_len : List ℕ → List ℕ → ℕ
+abbrev pub shared_len : (first key : List ℕ) → ℕ
 shared_len first key = common_prefix_len (λ a b. a == b) first key
 
 -- The key of a row: how many bytes it shares with the first key, how many are left, and these.

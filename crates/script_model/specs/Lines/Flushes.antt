@@ -9,7 +9,7 @@ use Rattle.script_model.specs.LineRuns.{LineCourse, step_line, line_end}
 use Rattle.script_model.specs.States.{State}
 
 -- The writer flushes the rows under this name. No party changes.
-abbrev pub flush_line : ℕ → List ℕ → ℕ → ℤ → List Row → State → LineCourse
+abbrev pub flush_line : (name : ℕ) (segment : List ℕ) (floor : ℕ) (tick : ℤ) (rows : List Row) (s : State) → LineCourse
 flush_line name segment floor tick rows s =
     step_line Writer
     (flush s.moment s.options.retention (last_name s.store.history)

@@ -10,7 +10,7 @@ use Rattle.script_model.specs.States.{Inputs, State}
 
 -- What a coordinator's poll is asked with: its epoch, the fleet's options and scheduler, and the
 -- moment.
-abbrev pub poll_ask : Inputs → State → LiveCoordinator → Bool → PollAsk
+abbrev pub poll_ask : (inputs : Inputs) (s : State) (c : LiveCoordinator) (commits_only : Bool) → PollAsk
 poll_ask inputs s c commits_only = record {
   epoch = c.epoch;
   options = record { timeout = s.options.timeout; concurrent = s.options.concurrent; moves = s.options.moves };
@@ -21,7 +21,7 @@ poll_ask inputs s c commits_only = record {
 
 -- A line by which a coordinator polls. It stays live only if the poll ends with a report. It does
 -- not if it is fenced or a fault strikes a call.
-abbrev pub polls : Bool → (PollState → List ℕ) → Inputs → ℕ → State → LineCourse
+abbrev pub polls : (commits_only : Bool) (spell : PollState → List ℕ) (inputs : Inputs) (n : ℕ) (s : State) → LineCourse
 polls commits_only spell inputs n s = if_some (coordinator_with n s.parties) (no_such_party s) (λ c.
     let gone = without_coordinator n s.parties in
     step_line (Coordinator n) (poll (poll_ask inputs s c commits_only))

@@ -20,7 +20,7 @@ range_end [] = Unbounded
 range_end (b ∷ key) = Excluded (b ∷ key)
 
 -- The keys at or after `from` and before `to`. An empty end means no bound.
-abbrev pub keys_between : List ℕ → List ℕ → Range
+abbrev pub keys_between : (from to : List ℕ) → Range
 keys_between from to = record { from = range_start from; to = range_end to }
 
 -- How a scan ends: no key with an answer is left, the operator refused a fold of a key, or the
@@ -63,7 +63,7 @@ scan_reply page = reply (codes "ok" ∷ list_text comma (map pair_text page.pair
 
 -- A scan gives the first page of the rows that were flushed into the segment and not drained. It is
 -- refused under the same conditions as a read.
-abbrev pub scan : Inputs → List ℕ → List ℕ → List ℕ → ℕ → ℤ → ℕ → State → LineCourse
+abbrev pub scan : (inputs : Inputs) (segment from to : List ℕ) (seq : ℕ) (now : ℤ) (limit : ℕ) (s : State) → LineCourse
 scan inputs segment from to seq now limit s =
     let m = s.store.manifest in
     only_replies s (if is_not_retained m seq now then not_retained m.horizon m.tick

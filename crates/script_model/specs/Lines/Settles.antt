@@ -19,7 +19,7 @@ abbrev pub is_ok : List ℕ → Bool
 is_ok answer = starts_with nat_eq answer (codes "ok")
 
 -- The coordinator and the worker of these numbers are both live.
-abbrev pub are_live : ℕ → ℕ → State → Bool
+abbrev pub are_live : (coordinator worker : ℕ) (s : State) → Bool
 are_live coordinator worker s =
     is_some (coordinator_with coordinator s.parties) && is_some (worker_with worker s.parties)
 

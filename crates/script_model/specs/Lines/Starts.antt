@@ -32,7 +32,7 @@ start_coordinator n s =
     others
 
 -- A line that makes these notes, replies ok, and leaves these parties live.
-abbrev pub only_notes : Party → List Event → State → Parties → LineCourse
+abbrev pub only_notes : (party : Party) (notes : List Event) (s : State) (parties : Parties) → LineCourse
 only_notes party notes s parties = record {
   party = party;
   course = calls_each notes (Ends (record { reply = ok; parties = parties }));

@@ -28,16 +28,17 @@ worker_options o = record {
 }
 
 -- The live parties after the worker's attempts were replaced by these.
-abbrev pub running : LiveWorker → State → List Attempt → Parties
-running w s attempts = with_worker (record w { attempts = attempts }) s.parties
+abbrev pub parties_running : LiveWorker → State → List Attempt → Parties
+parties_running w s attempts = with_worker (record w { attempts = attempts }) s.parties
 
 -- A line that does one step of a worker. After a report the worker runs the attempts that the step
 -- reports. After a refusal it runs the attempts of `refused`. If a fault strikes a call, the worker
 -- is no longer live.
-abbrev pub worker_line : {A : Type 0} → LiveWorker → State → Course (StepEnd A) → (A → List ℕ) → (A → List Attempt)
-    → List Attempt → LineCourse
+abbrev pub worker_line : {A : Type 0} → (w : LiveWorker) (s : State) (step : Course (StepEnd A)) (spell : A → List ℕ)
+    (reported : A → List Attempt) (refused : List Attempt) → LineCourse
 worker_line w s step spell reported refused =
-    step_line (Worker w.number) step (line_end spell (λ report. running w s (reported report)) (running w s refused))
+    step_line (Worker w.number) step
+    (line_end spell (λ report. parties_running w s (reported report)) (parties_running w s refused))
     (without_worker w.number s.parties)
 
 -- The worker claims jobs.

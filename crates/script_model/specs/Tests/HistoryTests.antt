@@ -31,15 +31,15 @@ same_seq (Some a) (Some b) = a == b
 same_seq _ _ = false
 
 -- Two nodes have the same name, tables and flushes.
-abbrev same_node : Node → Node → Bool
+abbrev same_node : (a b : Node) → Bool
 same_node a b = node_eq a b && ids_eq a.flushes b.flushes
 
-abbrev same_segment : Segment → Segment → Bool
+abbrev same_segment : (a b : Segment) → Bool
 same_segment a b =
     bytes_eq a.prefix b.prefix && pointwise same_node a.tree b.tree && same_seq a.last_seq b.last_seq
     && same_seq a.watermark b.watermark
 
-abbrev same_job : Job → Job → Bool
+abbrev same_job : (a b : Job) → Bool
 same_job a b =
     (a.id == b.id) && status_eq a.status b.status && (a.attempt == b.attempt) && ids_eq a.source_tables b.source_tables
     && pointwise ids_eq a.outputs b.outputs
@@ -94,7 +94,7 @@ abbrev is_passed : List Entry → List NodeName → Option ℕ → Bool
 is_passed history nodes None = true
 is_passed history nodes (Some flush) = was_flushed history flush && not (names_contain nodes (L0 flush))
 
-abbrev name_apart : Job → Job → Bool
+abbrev name_apart : (a b : Job) → Bool
 name_apart a b = not (is_active a && is_active b) || list_all (λ t. not (contains (job_tables b) t)) (job_tables a)
 
 -- Each table is put once. The flushes of nodes took effect, watermarks are passed, and no table is in

@@ -30,7 +30,7 @@ same_content (Merge a) (Merge b) = bytes_eq a b
 same_content Tombstone Tombstone = true
 same_content _ _ = false
 
-abbrev same_row : Row → Row → Bool
+abbrev same_row : (a b : Row) → Bool
 same_row a b =
     bytes_eq a.key b.key && same_content a.content b.content && (a.seq == b.seq) && same_stamp a.created b.created
     && same_stamp a.expires b.expires
@@ -47,7 +47,7 @@ same_bound (Included a) (Included b) = bytes_eq a b
 same_bound (Excluded a) (Excluded b) = bytes_eq a b
 same_bound _ _ = false
 
-abbrev same_range : Range → Range → Bool
+abbrev same_range : (a b : Range) → Bool
 same_range a b = same_bound a.from b.from && same_bound a.to b.to
 
 abbrev same_flag : Bool → Bool → Bool
@@ -67,7 +67,7 @@ are_ranges ranges (Some others) = pointwise same_range ranges others
 -- ---- sources
 
 -- No two jobs hold the same node.
-abbrev pub hold_apart : Job → Job → Bool
+abbrev pub hold_apart : (a b : Job) → Bool
 hold_apart a b = not (reserves_nodes a && reserves_nodes b) || is_apart (nodes_of a.spec) (nodes_of b.spec)
 
 abbrev destination_stands : Trees → Tree → List NodeName → Option ℕ → Bool
@@ -109,7 +109,8 @@ settings_fit manifest spec settings =
     && (not settings.last_run || none_left (older_nodes spec.sources (names (tree_at spec.segment manifest.trees))))
 
 -- The settings and ranges are those of the claim, and the tables of each range begin its rows.
-abbrev pub context_stands : Operator → Store → (ℕ → JobSpec) → (job attempt : ℕ) → List ℕ → Context → Bool
+abbrev pub context_stands : (merge : Operator) (store : Store) (specs : ℕ → JobSpec) → (job attempt : ℕ)
+    → (sources : List ℕ) (context : Context) → Bool
 context_stands merge store specs job attempt sources context =
     same_but_cut context.settings (settings_of store.tables specs store.history job attempt)
     && are_ranges (map (λ range. range.0) context.ranges) (ranges_of store.history job attempt)
@@ -125,7 +126,7 @@ context_fits merge store specs job (Some context) =
     && settings_fit store.manifest job.spec context.settings
 
 -- A job has a context exactly if it waits or runs and was beaten, and the context fits.
-abbrev pub has_context : Operator → Store → (ℕ → JobSpec) → Job → Bool
+abbrev pub has_context : (merge : Operator) (store : Store) (specs : ℕ → JobSpec) (job : Job) → Bool
 has_context merge store specs job =
     same_flag (is_some job.context)
     ((has_status Scheduled job || has_status Running job) && was_beaten store.history job.id)
@@ -149,7 +150,7 @@ outputs_fit_by merge store job (Some found) =
     (noted_rows store.tables (concat job.outputs)))
 
 -- The outputs of a Compacted job hold all rows that the settings of its last claim make of its sources.
-abbrev pub outputs_fit : Operator → Store → (ℕ → JobSpec) → Job → Bool
+abbrev pub outputs_fit : (merge : Operator) (store : Store) (specs : ℕ → JobSpec) (job : Job) → Bool
 outputs_fit merge store specs job =
     not (has_status Compacted job)
     || outputs_fit_by merge store job (settings_of store.tables specs store.history job.id job.attempt)
@@ -165,7 +166,7 @@ lives_if_stored (Some job) a = lives job a
 
 -- Each attempt has the context of its claim, and its tables are held. Each live attempt has the source
 -- tables of its job.
-abbrev pub worker_fits : Operator → Store → (ℕ → JobSpec) → LiveWorker → Bool
+abbrev pub worker_fits : (merge : Operator) (store : Store) (specs : ℕ → JobSpec) (w : LiveWorker) → Bool
 worker_fits merge store specs w =
     list_all
     (λ a. context_stands merge store specs a.job a.number a.sources a.context

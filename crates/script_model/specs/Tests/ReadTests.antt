@@ -22,13 +22,13 @@ abbrev moments_from : Manifest → List Row → List ℤ
 moments_from manifest rows = manifest.tick ∷ filter (int_le manifest.tick) (filter_map (λ r. r.expires) rows)
 
 -- A read of the key answers from the tables what it answers from the flushed rows.
-abbrev reads_alike : Operator → Store → Segment → List ℕ → ℕ → ℤ → Bool
+abbrev reads_alike : (merge : Operator) (store : Store) (s : Segment) (key : List ℕ) (seq : ℕ) (now : ℤ) → Bool
 reads_alike merge store s key seq now =
     same_answer (read merge key seq now (flushed_rows store.tables s.tree key))
     (read merge key seq now (stored_rows store.tables s.tree key))
 
 -- So does each read of a flushed key, at each of these sequences and moments.
-abbrev segment_reads : Operator → Store → List Row → Segment → Bool
+abbrev segment_reads : (merge : Operator) (store : Store) (rows : List Row) (s : Segment) → Bool
 segment_reads merge store rows s =
     list_all
     (λ r. list_all (λ seq. list_all (reads_alike merge store s r.key seq) (moments_from store.manifest rows))

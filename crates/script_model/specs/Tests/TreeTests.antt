@@ -26,7 +26,7 @@ is_before (Run a) (Run b) = nat_lt b a
 
 -- Every row of the newer node and its flushes has a greater sequence than every row of the older node
 -- and its flushes.
-abbrev pub is_newer : Tables → Node → Node → Bool
+abbrev pub is_newer : (tables : Tables) (newer older : Node) → Bool
 is_newer tables newer older =
     list_all (λ r. list_all (λ q. nat_lt q.seq r.seq) (node_and_flushed_rows tables older))
     (node_and_flushed_rows tables newer)

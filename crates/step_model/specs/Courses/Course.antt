@@ -63,7 +63,8 @@ puts_ranges moment (tables ∷ ranges) next =
 
 -- A course that puts the manifest for a version. If the stored manifest has this version, the
 -- course goes on with `next`. Otherwise it goes on with `refused`, given the stored version.
-abbrev pub puts_manifest : {A : Type 0} → ℕ → ManifestChange → Manifest → Course A → (ℕ → Course A) → Course A
+abbrev pub puts_manifest : {A : Type 0} → (version : ℕ) (change : ManifestChange) (value : Manifest) (next : Course A)
+    (refused : ℕ → Course A) → Course A
 puts_manifest version change value next refused =
     Calls (PutsManifest version change value)
     (λ met. if version == met.manifest.version then next else refused met.manifest.version)
@@ -71,7 +72,8 @@ puts_manifest version change value next refused =
 -- A course that puts the records for the version that was got. If the stored records have this
 -- version, the course goes on with `next`. Otherwise it goes on with `refused`, given the stored
 -- version.
-abbrev pub puts_records : {A : Type 0} → Records → RecordChange → ℕ → Jobs → Course A → (ℕ → Course A) → Course A
+abbrev pub puts_records : {A : Type 0} → (got : Records) (change : RecordChange) (epoch : ℕ) (jobs : Jobs)
+    (next : Course A) (refused : ℕ → Course A) → Course A
 puts_records got change epoch jobs next refused =
     Calls (PutsRecords got.version change epoch jobs)
     (λ met. if got.version == records_version met.records then next else refused (records_version met.records))

@@ -47,7 +47,7 @@ IsPassed history names None = ⊤
 IsPassed history names (Some flush) = IsTrue (was_flushed history flush) × (names_contain names (L0 flush) ≡ false)
 
 -- No table is in both lists.
-abbrev pub AreApart : List ℕ → List ℕ → Type 0
+abbrev pub AreApart : (xs ys : List ℕ) → Type 0
 AreApart xs ys = IsTrue (list_all (λ x. not (contains ys x)) xs)
 
 -- Each table that a node of a past manifest holds is known. In the stored trees the flushes of each
@@ -71,7 +71,7 @@ abbrev pub is_unjoined : List Entry → Job → Bool
 is_unjoined history job = is_active job && not (was_joined history job.id)
 
 -- If both jobs are active, they name no table in common.
-abbrev pub NameApart : Job → Job → Type 0
+abbrev pub NameApart : (a b : Job) → Type 0
 NameApart a b = IsTrue (is_active a) → IsTrue (is_active b) → AreApart (job_tables a) (job_tables b)
 
 -- The flushes among the sources of a job that holds its nodes took effect. The tables that an active

@@ -54,7 +54,8 @@ plan_of input job = by (claimed_attempt input job) job.context
 
 -- The end of a claim, under the manifest that the worker got after its put. Each claimed job that
 -- can start begins an attempt. The report names the other claimed jobs as released.
-abbrev pub starts_claimed : ClaimInput → LiveWorker → Jobs → List ℕ → Course (StepEnd Claimed)
+abbrev pub starts_claimed : (input : ClaimInput) (w : LiveWorker) (claimed : Jobs) (stopped : List ℕ)
+    → Course (StepEnd Claimed)
 starts_claimed input w claimed stopped =
     let started = filter (can_start input.manifest) claimed in
     let begun = map (claimed_attempt input) started in

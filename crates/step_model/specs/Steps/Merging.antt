@@ -33,7 +33,7 @@ merged_segment (Some local) remote = record remote {
 }
 
 -- The merged trees: each stored segment merged with the local segment of its prefix.
-abbrev pub merged_trees : Trees → Trees → Trees
+abbrev pub merged_trees : (local remote : Trees) → Trees
 merged_trees local remote = map (λ s. merged_segment (segment_at s.prefix local) s) remote
 
 -- ---- jobs

@@ -73,7 +73,7 @@ abbrev pub with_noted : (place table : ℕ) → Attempt → (attempts : List Att
 with_noted place table a attempts = put_attempt (noting place table a) (without_attempts (a.job ∷ []) attempts)
 
 -- The rows of a range that the attempt has not yet written.
-abbrev pub unwritten : Operator → Tables → Attempt → Range × List ℕ → JobRows
+abbrev pub unwritten : (merge : Operator) (tables : Tables) (a : Attempt) (range : Range × List ℕ) → JobRows
 unwritten merge tables a range = rows_left merge tables a.context.settings a.sources range
 
 -- The rows that an output writes: the next ones of its range, at most as many as it is asked for.

@@ -22,7 +22,7 @@ epoch_above manifest records = max manifest.epoch (records_epoch records) + 1
 
 -- A step of a coordinator goes on unless the stored epoch is above its own. In that case it ends as
 -- fenced.
-abbrev pub unless_fenced : {A : Type 0} → ℕ → ℕ → Course (StepEnd A) → Course (StepEnd A)
+abbrev pub unless_fenced : {A : Type 0} → (epoch stored : ℕ) (next : Course (StepEnd A)) → Course (StepEnd A)
 unless_fenced epoch stored next = if nat_lt epoch stored then Ends (Fenced stored) else next
 
 -- The end of a start: the coordinator gets both objects again, so that it holds them as they are.
@@ -39,7 +39,8 @@ records_or_none (Some records) = records
 
 -- A course that puts the records with a new epoch. If there are no records, the put is for version
 -- 0.
-abbrev pub puts_epoch : Option Records → ℕ → Course (StepEnd ℕ) → (ℕ → Course (StepEnd ℕ)) → Course (StepEnd ℕ)
+abbrev pub puts_epoch : (records : Option Records) (epoch : ℕ) (next : Course (StepEnd ℕ))
+    (again : ℕ → Course (StepEnd ℕ)) → Course (StepEnd ℕ)
 puts_epoch records epoch next again =
     Calls (PutsRecords (records_version records) (RecordsEpoch epoch) epoch (trimmed_jobs (jobs_in records)))
     (λ met. if records_version records == records_version met.records then next
@@ -68,11 +69,11 @@ pub record PollAsk : Type 0 where
   pub commits_only : Bool  -- the poll takes its second step alone
 
 -- Two nodes have the same name and tables.
-abbrev pub node_eq : Node → Node → Bool
+abbrev pub node_eq : (a b : Node) → Bool
 node_eq a b = name_eq a.name b.name && ids_eq a.pieces b.pieces
 
 -- The nodes of two segments have the same names and tables, in the same order.
-abbrev pub same_tree : Segment → Segment → Bool
+abbrev pub same_tree : (a b : Segment) → Bool
 same_tree a b = pointwise node_eq a.tree b.tree
 
 -- The poll has the names and tables of all nodes, and the horizon, of the manifest that it got. If its
@@ -81,7 +82,7 @@ abbrev pub is_unchanged : Manifest → PollState → Bool
 is_unchanged manifest p = pointwise same_tree manifest.trees p.trees && (manifest.horizon == p.horizon)
 
 -- The input of a poll: the objects that it got, with its options, scheduler and moment.
-abbrev pub input_of : PollAsk → Tables → Manifest → Records → PollInput
+abbrev pub input_of : (ask : PollAsk) (tables : Tables) (manifest : Manifest) (records : Records) → PollInput
 input_of ask tables manifest records = record {
   options = ask.options;
   scheduler = ask.scheduler;
@@ -107,7 +108,7 @@ proposed_specs ask input p = if ask.commits_only then [] else proposals input p
 
 -- The steps of a poll after ids are drawn: it adds the proposals and opens submitted jobs. A poll
 -- with `commits_only` does neither.
-abbrev pub last_steps : PollAsk → PollInput → List (ℕ × JobSpec) → PollState → PollState
+abbrev pub last_steps : (ask : PollAsk) (input : PollInput) (drawn : List (ℕ × JobSpec)) (p : PollState) → PollState
 last_steps ask input drawn p = if ask.commits_only then p else open_submitted input (add_drawn 1 drawn p)
 
 -- The poll's state after newer records are merged into its jobs, which happens when a put of the
@@ -131,16 +132,16 @@ puts_polled epoch p got (suc left) seen =
 -- A poll puts the manifest if it changed the trees or the horizon, and then the records. If the put
 -- of the manifest is refused, the poll begins again. If it takes effect, the count of refused puts
 -- begins again.
-abbrev pub puts_trees : ℕ → PollState → Manifest → Records → ℕ → ℕ → (ℕ → Course (StepEnd PollState))
-    → Course (StepEnd PollState)
+abbrev pub puts_trees : (epoch : ℕ) (p : PollState) (manifest : Manifest) (got : Records) (left seen : ℕ)
+    (again : ℕ → Course (StepEnd PollState)) → Course (StepEnd PollState)
 puts_trees epoch p manifest got left seen again =
     if is_unchanged manifest p then puts_polled epoch p got left seen
     else puts_manifest manifest.version (Commit p.steps) (record manifest { trees = p.trees; horizon = p.horizon })
     (puts_polled epoch p got most_refused 0) again
 
 -- A poll after its two gets: it draws an id for each proposal, and puts what it changed.
-abbrev pub polls_over : PollAsk → Tables → Manifest → Records → ℕ → ℕ → (ℕ → Course (StepEnd PollState))
-    → Course (StepEnd PollState)
+abbrev pub polls_over : (ask : PollAsk) (tables : Tables) (manifest : Manifest) (got : Records) (left seen : ℕ)
+    (again : ℕ → Course (StepEnd PollState)) → Course (StepEnd PollState)
 polls_over ask tables manifest got left seen again =
     let input = input_of ask tables manifest got in
     let p = first_steps ask input in

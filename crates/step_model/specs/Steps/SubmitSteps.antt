@@ -23,7 +23,8 @@ submits_drawn moment got (p ∷ specs) again =
     (Ends (Reports (firsts (p ∷ specs)))) again
 
 -- A submission that draws an id for each spec and puts the jobs.
-abbrev pub submits_specs : ℕ → Records → List JobSpec → (ℕ → Course (StepEnd (List ℕ))) → Course (StepEnd (List ℕ))
+abbrev pub submits_specs : (moment : ℕ) (got : Records) (specs : List JobSpec) (again : ℕ → Course (StepEnd (List ℕ)))
+    → Course (StepEnd (List ℕ))
 submits_specs moment got specs again = draws_jobs moment specs (λ drawn. submits_drawn moment got drawn again)
 
 -- A submission after its get of the records. If there are no records, it ends with NoRecords.

@@ -4,7 +4,7 @@ use Rattle.fleet_tree.specs.Trees.{trees_of}
 use Rattle.fleet_jobs.specs.Jobs.{job_of}
 use Rattle.fleet_jobs.specs.Specs.{spec_of}
 use Rattle.fleet_sched.specs.Views.{view_of}
-use Rattle.fleet_gates.specs.Rules.{accept_each, number_of, numbered}
+use Rattle.fleet_gates.specs.Rules.{accept_each, number_of, rule_number}
 use Rattle.fleet_gates.proofs.FirstRules.{submit_asks, submit_fails}
 use Rattle.fleet_gates.proofs.submit.submit_gate.Goals as goal
 
@@ -14,7 +14,7 @@ returns-in-Some-clause-rule g c = λ flushes jobs lost decides.
     let accepts = ((goal.CompactionScheduler-dyn g c.args.scheduler.now).answers c.args.scheduler.now.1).validate (view_of flushes c.args.view.now) in
     let job = job_of c.args.job.now in
     let same = c.core.ensures ∙ ap (λ manifest. manifest.manifest.core) c.manifest.ensures in
-    let fails = ap numbered (sym c.in-Some.is) ∙ c.in_ok-rule.ensures flushes jobs lost decides ∙ ap (λ core. submit_gate (trees_of flushes core) jobs lost accept_each job) same in
+    let fails = ap rule_number (sym c.in-Some.is) ∙ c.in_ok-rule.ensures flushes jobs lost decides ∙ ap (λ core. submit_gate (trees_of flushes core) jobs lost accept_each job) same in
     submit_fails trees jobs lost accepts job (number_of c.in-Some.rule) fails
 
 pub returns-in-None-clause-rule : goal.returns-in-None-clause-rule
@@ -23,5 +23,5 @@ returns-in-None-clause-rule g c = λ flushes jobs lost decides.
     let accepts = ((goal.CompactionScheduler-dyn g c.args.scheduler.now).answers c.args.scheduler.now.1).validate (view_of flushes c.args.view.now) in
     let job = job_of c.args.job.now in
     let same = c.core.ensures ∙ ap (λ manifest. manifest.manifest.core) c.manifest.ensures in
-    let passes = ap numbered (sym c.in-None.is) ∙ c.in_ok-rule.ensures flushes jobs lost decides ∙ ap (λ core. submit_gate (trees_of flushes core) jobs lost accept_each job) same in
+    let passes = ap rule_number (sym c.in-None.is) ∙ c.in_ok-rule.ensures flushes jobs lost decides ∙ ap (λ core. submit_gate (trees_of flushes core) jobs lost accept_each job) same in
     submit_asks trees jobs lost accepts job _ c.scheduler_rule.result (ap spec_of c.spec.ensures) passes (c.scheduler_rule.ensures.rule flushes)

@@ -2,7 +2,7 @@ use Rattle.std.proofs.Common.{◌∙◌, sym, ap, subst}
 use Rattle.std.specs.Prelude.{is_some}
 use Rattle.fleet_book.specs.Records.{AreRising, record_with}
 use Rattle.fleet_book.specs.States.{own_jobs}
-use Rattle.fleet_poll.specs.Polls.{failed}
+use Rattle.fleet_poll.specs.Polls.{failed_record}
 use Rattle.fleet_poll.proofs.Records.{failed_job, none_if, not_there}
 use Rattle.fleet_poll.proofs.failing.fail_job.Goals as goal
 
@@ -15,4 +15,4 @@ returns-then-has_job-clause-jobs c =
 pub returns-else-has_job-clause-jobs : goal.returns-else-has_job-clause-jobs
 returns-else-has_job-clause-jobs c =
     let none = sym (c.has_job.ensures ∙ ap (λ v. is_some (record_with c.args.id v.compactions.jobs)) c.compactions-2.ensures) ∙ c.if-has_job.false in
-    not_there failed c.args.id (own_jobs c.args.state.now) (none_if _ none)
+    not_there failed_record c.args.id (own_jobs c.args.state.now) (none_if _ none)

@@ -4,14 +4,14 @@ use Rattle.fleet_jobs.specs.Jobs.{with_status}
 use Rattle.fleet_jobs.specs.declared.status.CompactionStatus.TheVariants as own
 use Rattle.fleet_book.specs.Records.{AreRising, record_with}
 use Rattle.fleet_book.specs.States.{own_jobs}
-use Rattle.fleet_poll.specs.Polls.{waiting}
+use Rattle.fleet_poll.specs.Polls.{waiting_record}
 use Rattle.fleet_poll.proofs.Changed.{there_is}
 use Rattle.fleet_poll.proofs.Records.{freed_job, not_there}
 use Rattle.fleet_poll.proofs.freeing.free_job.Goals as goal
 
 pub returns-in_default-clause-jobs : goal.returns-in_default-clause-jobs
 returns-in_default-clause-jobs c =
-    not_there waiting c.args.id (own_jobs c.args.state.now)
+    not_there waiting_record c.args.id (own_jobs c.args.state.now)
     (sym (ap option_copied (sym c.in_default.is) ∙ c.get.ensures ∙ ap (λ v. record_with c.args.id v.jobs) (c.compactions-3.ensures ∙ ap (λ v. v.compactions) c.compactions-2.ensures)))
 
 pub set_compaction-requires : goal.set_compaction-requires

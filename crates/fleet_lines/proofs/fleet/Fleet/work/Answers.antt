@@ -10,7 +10,7 @@ use Rattle.fleet_text.specs.Lines.{line_of, nodes_of}
 use Rattle.fleet_text.specs.declared.line.Line.{Line}
 use Rattle.fleet_text.specs.declared.node.NodeName.{NodeName}
 use Rattle.fleet_lines.specs.Fleets.{state_of}
-use Rattle.fleet_lines.specs.Lines.{Runs}
+use Rattle.fleet_lines.specs.Lines.{RunsAlone}
 use Rattle.fleet_lines.proofs.ServeLines.{claim_serves, drain_serves, full_serves, served_as, submit_serves, commit_serves, kill_coordinator_serves, poll_serves, start_coordinator_serves, stop_coordinator_serves, flush_serves, heartbeat_serves, kill_worker_serves, start_worker_serves, stop_worker_serves}
 use Rattle.fleet_lines.proofs.FlushAsks.{may_flush, tick_back}
 use Rattle.fleet_lines.proofs.fleet.Fleet.work.Goals as goal

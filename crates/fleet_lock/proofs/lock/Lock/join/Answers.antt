@@ -1,6 +1,6 @@
 use Rattle.std.proofs.Common.{◌≡◌, ◌∙◌, ◌+◌, ◌∷◌, [], ap, arith, subst, sym}
 use Rattle.fleet_lock.specs.Passes.{IsPass, PassValue, first_view}
-use Rattle.fleet_lock.specs.Rule.{IsFront, joined}
+use Rattle.fleet_lock.specs.Rule.{IsFront, joined_view}
 use Rattle.fleet_lock.specs.declared.sight.Sight.{Sight}
 use Rattle.fleet_lock.proofs.Moves.{joins_as, tells_as}
 use Rattle.fleet_lock.proofs.Passes.{join_keeps, same_base}
@@ -37,9 +37,9 @@ pub invariant_of-into : goal.invariant_of-into
 invariant_of-into g c =
     let e = c.seat_of-seat.ensures in
     let f = c.seat_of-other.ensures in
-    let seen : c.join_seat.new.seat.me.0 ≡ joined (first_view c.into.inside.badge.views) (first_view c.from.inside.badge.views) =
-    ap (λ m. m.0) c.join_seat.ensures.2 ∙ (λ i. joined (ap (λ m. m.0) e.view i) (ap (λ m. m.0) f.view i)) in
-    let views : c.into_badge.result.views ≡ joined (first_view c.into.inside.badge.views) (first_view c.from.inside.badge.views) ∷ [] =
+    let seen : c.join_seat.new.seat.me.0 ≡ joined_view (first_view c.into.inside.badge.views) (first_view c.from.inside.badge.views) =
+    ap (λ m. m.0) c.join_seat.ensures.2 ∙ (λ i. joined_view (ap (λ m. m.0) e.view i) (ap (λ m. m.0) f.view i)) in
+    let views : c.into_badge.result.views ≡ joined_view (first_view c.into.inside.badge.views) (first_view c.from.inside.badge.views) ∷ [] =
     c.into_badge.ensures.2 ∙ ap (λ m. m.0 ∷ []) c.load-into-inside.ensures.2.0 ∙ ap (λ (v : Sight). v ∷ []) seen in
     subst (λ n. IsPass c.into_badge.result.views (c.into.inside.parts + c.from.inside.parts) n c.into.inside.party) (sym c.max-into-inside.ensures) (join_keeps _ _ _ _ _ _ _ _ _ c.into.invariant c.from.invariant views)
 
@@ -47,14 +47,14 @@ pub returns-clause-base : goal.returns-clause-base
 returns-clause-base g c =
     let e = c.seat_of-seat.ensures in
     let f = c.seat_of-other.ensures in
-    let seen : c.join_seat.new.seat.me.0 ≡ joined c.args.into.now.sight c.args.from.sight =
-    ap (λ m. m.0) c.join_seat.ensures.2 ∙ (λ i. joined (ap (λ m. m.0) e.view i) (ap (λ m. m.0) f.view i)) ∙ (λ i. joined (c.into.view_is i).sight (c.from.view_is i).sight) in
+    let seen : c.join_seat.new.seat.me.0 ≡ joined_view c.args.into.now.sight c.args.from.sight =
+    ap (λ m. m.0) c.join_seat.ensures.2 ∙ (λ i. joined_view (ap (λ m. m.0) e.view i) (ap (λ m. m.0) f.view i)) ∙ (λ i. joined_view (c.into.view_is i).sight (c.from.view_is i).sight) in
     same_base c.args.into.now.sight c.args.from.sight (subst (λ (v : Sight). v.other_base ≡ v.base) seen c.load-into-inside.ensures.2.2)
 
 pub returns-clause-front : goal.returns-clause-front
 returns-clause-front g c =
     let e = c.seat_of-seat.ensures in
     let f = c.seat_of-other.ensures in
-    let seen : c.join_seat.new.seat.me.0 ≡ joined c.args.into.now.sight c.args.from.sight =
-    ap (λ m. m.0) c.join_seat.ensures.2 ∙ (λ i. joined (ap (λ m. m.0) e.view i) (ap (λ m. m.0) f.view i)) ∙ (λ i. joined (c.into.view_is i).sight (c.from.view_is i).sight) in
+    let seen : c.join_seat.new.seat.me.0 ≡ joined_view c.args.into.now.sight c.args.from.sight =
+    ap (λ m. m.0) c.join_seat.ensures.2 ∙ (λ i. joined_view (ap (λ m. m.0) e.view i) (ap (λ m. m.0) f.view i)) ∙ (λ i. joined_view (c.into.view_is i).sight (c.from.view_is i).sight) in
     subst (λ (v : Sight). IsFront v.other_trace v.trace) seen c.load-into-inside.ensures.2.3

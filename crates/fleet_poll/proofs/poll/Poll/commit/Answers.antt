@@ -4,9 +4,9 @@ use Rattle.fleet_jobs.specs.Jobs.{job_of}
 use Rattle.fleet_model.specs.Work.Polls.{commit_by}
 use Rattle.fleet_book.specs.Records.{record_with}
 use Rattle.fleet_book.specs.States.{own_jobs}
-use Rattle.fleet_gates.specs.Rules.{number_of, numbered}
+use Rattle.fleet_gates.specs.Rules.{number_of, rule_number}
 use Rattle.fleet_poll.specs.Made.{flushes_committed, own_core}
-use Rattle.fleet_poll.specs.Polls.{failed, poll_of}
+use Rattle.fleet_poll.specs.Polls.{failed_record, poll_of}
 use Rattle.fleet_poll.proofs.Opened.{for_all_ok, of_found}
 use Rattle.fleet_poll.proofs.Carried.{changed_others, changed_sees, failed_names, joined_others, joined_sees, on_both}
 use Rattle.fleet_poll.proofs.Over.{joined_is_over, lost_is_over}
@@ -17,7 +17,7 @@ pub returns-in-Some-clause-poll : goal.returns-in-Some-clause-poll
 returns-in-Some-clause-poll c = λ flushes input rise floor.
     let poll = c.args.self.now in
     let found = record_with c.args.job (own_jobs poll.state) in
-    subst (λ f. OnOk c.lose.result (IfSome found (λ joined. poll_of (flushes_committed (numbered f) joined (own_core poll.state) flushes) c.lose.new.self ≡ commit_by input (job_of joined) (numbered f) (poll_of flushes poll)))) (sym c.in-Some.is)
+    subst (λ f. OnOk c.lose.result (IfSome found (λ joined. poll_of (flushes_committed (rule_number f) joined (own_core poll.state) flushes) c.lose.new.self ≡ commit_by input (job_of joined) (rule_number f) (poll_of flushes poll)))) (sym c.in-Some.is)
     (for_all_ok (λ job. job.id ≡ c.args.job) (λ job. poll_of flushes c.lose.new.self ≡ commit_by input job (Some (number_of c.in-Some.rule)) (poll_of flushes poll)) c.lose.result
     (of_found (λ job. poll_of flushes c.lose.new.self ≡ commit_by input job (Some (number_of c.in-Some.rule)) (poll_of flushes poll)) c.args.job (own_jobs poll.state))
     (c.lose.ensures.poll flushes input))
@@ -26,12 +26,12 @@ pub returns-in-None-clause-poll : goal.returns-in-None-clause-poll
 returns-in-None-clause-poll c = λ flushes input rise floor.
     let poll = c.args.self.now in
     let found = record_with c.args.job (own_jobs poll.state) in
-    subst (λ f. OnOk c.join.result (IfSome found (λ joined. poll_of (flushes_committed (numbered f) joined (own_core poll.state) flushes) c.join.new.self ≡ commit_by input (job_of joined) (numbered f) (poll_of flushes poll)))) (sym c.in-None.is)
+    subst (λ f. OnOk c.join.result (IfSome found (λ joined. poll_of (flushes_committed (rule_number f) joined (own_core poll.state) flushes) c.join.new.self ≡ commit_by input (job_of joined) (rule_number f) (poll_of flushes poll)))) (sym c.in-None.is)
     (c.join.ensures.poll flushes input rise floor)
 
 pub returns-in-Some-clause-others : goal.returns-in-Some-clause-others
 returns-in-Some-clause-others c =
-    on_ok c.lose.result (changed_others failed c.args.job c.args.self.now.state c.lose.new.self.state failed_names) c.lose.ensures.jobs
+    on_ok c.lose.result (changed_others failed_record c.args.job c.args.self.now.state c.lose.new.self.state failed_names) c.lose.ensures.jobs
 
 pub returns-in-None-clause-others : goal.returns-in-None-clause-others
 returns-in-None-clause-others c =
@@ -40,7 +40,7 @@ returns-in-None-clause-others c =
 
 pub returns-in-Some-clause-sees : goal.returns-in-Some-clause-sees
 returns-in-Some-clause-sees c =
-    on_both c.lose.result (λ same jobs. changed_sees failed (c.args.job ∷ []) c.args.self.now.state c.lose.new.self.state failed_names same jobs) c.lose.ensures.same c.lose.ensures.jobs
+    on_both c.lose.result (λ same jobs. changed_sees failed_record (c.args.job ∷ []) c.args.self.now.state c.lose.new.self.state failed_names same jobs) c.lose.ensures.same c.lose.ensures.jobs
 
 pub returns-in-None-clause-sees : goal.returns-in-None-clause-sees
 returns-in-None-clause-sees c =

@@ -1,13 +1,12 @@
-use Rattle.std.proofs.Common.{◌≡◌, ◌++◌, sym, subst, Option, Some, Bool, true, false}
+use Rattle.std.proofs.Common.{subst, Option, Some, false}
 use Rattle.std.specs.Prelude.{map}
 use Rattle.fleet_rows.specs.declared.row.RowEntry.{RowEntry}
 use Rattle.fleet_rows.specs.Row.{row_of}
 use Rattle.fleet_iter.specs.declared.iterator.IterationOrder.{IterationOrder}
-use Rattle.fleet_iter.specs.Merge.{Takes, Skips, hides, merged_left}
-use Rattle.fleet_iter.specs.Tracked.{taken_at_once}
+use Rattle.fleet_iter.specs.Merge.{Takes, Skips, hides}
 use Rattle.fleet_iter.proofs.Counts.{takes_in_front}
 use Rattle.fleet_iter.proofs.Dedup.{takes_given}
-use Rattle.fleet_iter.proofs.merge.take_given.Goals as goal
+use Rattle.fleet_iter.proofs.merge.take_distinct.Goals as goal
 
 pub returns-clause-ok : goal.returns-clause-ok
 returns-clause-ok g c =
@@ -21,11 +20,9 @@ returns-clause-ok g c =
     let ss2 = map f c.skip_hidden.new.sources.items in
     let x : RowEntry = c.in-Some.row in
     let A : Option RowEntry → _ = λ o. Takes order false hs ss hs1 ss1 o in
-    let B : Bool → _ = λ b. Takes order b hs ss hs2 ss2 (Some x) in
     let first : Takes order false hs ss hs1 ss1 (Some x) = subst A c.in-Some.is c.in_ok-row.ensures.ok in
     let rest = subst (λ (o : IterationOrder). Skips o (hides (row_of x)) hs1 ss1 hs2 ss2) c.in_ok-row.ensures.order c.in_ok-processed.ensures.ok in
-    let on : true ≡ c.args.dedup = sym c.if-not-dedup.false in
-    subst B on (takes_given order hs hs1 hs2 ss ss1 ss2 x first rest)
+    takes_given order hs hs1 hs2 ss ss1 ss2 x first rest
 
 pub returns-clause-all : goal.returns-clause-all
 returns-clause-all g c =
@@ -39,8 +36,6 @@ returns-clause-all g c =
     let ss2 = map f c.skip_hidden.new.sources.items in
     let x : RowEntry = c.in-Some.row in
     let A : Option RowEntry → _ = λ o. Takes order false hs ss hs1 ss1 o in
-    let B : Bool → _ = λ b. merged_left order hs ss ≡ taken_at_once b (merged_left order hs ss) ++ merged_left order hs2 ss2 in
     let first : Takes order false hs ss hs1 ss1 (Some x) = subst A c.in-Some.is c.in_ok-row.ensures.ok in
     let rest = subst (λ (o : IterationOrder). Skips o (hides (row_of x)) hs1 ss1 hs2 ss2) c.in_ok-row.ensures.order c.in_ok-processed.ensures.ok in
-    let on : true ≡ c.args.dedup = sym c.if-not-dedup.false in
-    subst B on (takes_in_front order hs hs1 hs2 ss ss1 ss2 x first rest)
+    takes_in_front order hs hs1 hs2 ss ss1 ss2 x first rest
