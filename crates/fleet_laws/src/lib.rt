@@ -3,34 +3,23 @@
 #![tactic(auto)]
 
 ghost use Rattle.std.specs.Prelude.{ℕ, ℤ, List};
-ghost use Rattle.row_model.specs.Append.{append};
 ghost use Rattle.row_model.specs.Fold.{Operator};
 ghost use Rattle.row_model.specs.Ranges.{Range};
 ghost use Rattle.fleet_model.specs.History.{Party};
-ghost use Rattle.fleet_model.specs.Invariants.Invariant.{FleetInvariant};
 ghost use Rattle.fleet_model.specs.Store.{Manifest, Store};
-ghost use Rattle.fleet_laws.specs.Begins.{FreshFleetFits, nobody};
-ghost use Rattle.fleet_laws.specs.Cuts.{CutsAreLow, MidwayCuts};
+ghost use Rattle.fleet_laws.specs.Begins.{FreshFleetFits};
+ghost use Rattle.fleet_laws.specs.Cuts.{CutsAreLow, WorkedCuts};
 ghost use Rattle.fleet_laws.specs.Faults.{OldPutsAreLost};
-ghost use Rattle.fleet_laws.specs.Midway.{midway_parties, midway_store};
 ghost use Rattle.fleet_laws.specs.Outputs.{OutputsMakeWhatIsLeft};
 ghost use Rattle.fleet_laws.specs.Reads.{ReplacementsAddUp, StoresAnswerReads};
 ghost use Rattle.fleet_laws.specs.Scans.{ScansAnswerAsReads, StoresAnswerScans};
 ghost use Rattle.fleet_laws.specs.Sweeps.{SweepIsExact};
-ghost use Rattle.fleet_laws.specs.Swept.{Sweeps, swept_store};
 ghost use Rattle.fleet_laws.specs.Transparent.{SweepsAreTransparent};
 
 /// A fresh store with no live party meets the fleet's invariant, so the invariant holds before the
 /// first line of a script.
 pub fn fresh_fleet_fits()
     ensures { (merge : Operator) → FreshFleetFits merge }
-{}
-
-/// A fleet in the midst of a job meets the invariant too. A flush of three versions of a key is
-/// stored, and a worker runs a job over it. The worker has put a table with the first two versions,
-/// and a heartbeat has published that table. So the invariant can be met while a job runs.
-pub fn midway_fits()
-    ensures { FleetInvariant append midway_store midway_parties }
 {}
 
 /// Replacements of rows that change no read add up: newer and older rows of a key may both be
@@ -69,21 +58,13 @@ pub fn outputs_make_what_is_left()
 pub fn cuts_are_low()
     ensures low { (manifest : Manifest) (moment retention : ℕ)
         → CutsAreLow manifest moment retention }
-    ensures midway { MidwayCuts }
+    ensures worked { WorkedCuts }
 {}
 
 /// A sweep deletes exactly the held tables that are not pinned, that no node of a tree names, and
 /// that no active job names in its context or its outputs.
 pub fn sweeps_are_exact()
     ensures { (pins : List ℕ) (store : Store) → SweepIsExact pins store }
-{}
-
-/// The fleet of `midway_fits` meets the invariant later too. Its job's run was joined, the put of
-/// the records was lost, and a sweep deleted the flush's table. Before the join a sweep finds
-/// nothing to delete.
-pub fn swept_fits()
-    ensures fits { FleetInvariant append swept_store nobody }
-    ensures sweeps { Sweeps }
 {}
 
 /// A history may be read without the entries of sweepers: it gives the same trees and jobs, the
