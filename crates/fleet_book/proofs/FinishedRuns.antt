@@ -121,7 +121,7 @@ module _ (sources : List SourceId) where
       by false rest = (other (run.id == id) refl, rest)
 
 -- A run whose id is among the names of the sources is a source.
-named_run : (id : ℕ) (sources : List SourceId) → contains (run_ids (map name_of sources)) id ≡ true → is_named sources (Run id) ≡ true
+pub named_run : (id : ℕ) (sources : List SourceId) → contains (run_ids (map name_of sources)) id ≡ true → is_named sources (Run id) ≡ true
 named_run id [] there = there
 named_run id (source ∷ sources) there = by (name_of source) there (named_run id sources)
   where

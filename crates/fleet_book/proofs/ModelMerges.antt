@@ -17,7 +17,7 @@ use Rattle.fleet_book.proofs.Records.{Above, none_there, rising_put}
 use Rattle.fleet_book.proofs.Trimmed.{put_job_is}
 
 -- The model's job with an id is that of the record with this id.
-looked : (id : ℕ) (jobs : List JobParts) → job_with id (jobs_of jobs) ≡ option_map job_of (record_with id jobs)
+pub looked : (id : ℕ) (jobs : List JobParts) → job_with id (jobs_of jobs) ≡ option_map job_of (record_with id jobs)
 looked id [] = refl
 looked id (job ∷ jobs) = ap (λ b. cond b (Some (job_of job)) (job_with id (jobs_of jobs))) (nat_eq_equiv.symm id job.id) ∙ by (job.id == id) (looked id jobs)
   where

@@ -13,7 +13,7 @@ use Rattle.fleet_store.proofs.Described.{kept_describe}
 use Rattle.fleet_claim.specs.Puts.{ClaimsRecords, claimed_record, is_named, taken_record}
 use Rattle.fleet_claim.proofs.Lists.{rising_map}
 
-named_contains : (attempts : List (ℕ × ℕ)) (job : ℕ) → is_named attempts job ≡ contains (firsts attempts) job
+pub named_contains : (attempts : List (ℕ × ℕ)) (job : ℕ) → is_named attempts job ≡ contains (firsts attempts) job
 named_contains [] job = refl
 named_contains (a ∷ attempts) job = by (a.0 == job) (named_contains attempts job)
   where

@@ -1,35 +1,25 @@
 -- A fresh fleet may run a line.
-use Rattle.std.proofs.Common.{◌≡◌, refl, sym, ◌∙◌, ap, subst, map, ℕ, List, [], cond, Bool, true, false, Option, Some, None}
-use Rattle.std.specs.Prelude.{◌<◌, ◌^◌, bytes_eq}
+use Rattle.std.proofs.Common.{◌≡◌, refl, sym, ◌∙◌, ap, subst, map, List, [], Option, None}
+use Rattle.std.specs.Prelude.{◌<◌, ◌^◌}
 use Rattle.row_model.specs.Fold.{Operator}
 use Rattle.fleet_model.specs.Exchanges.{Fault}
-use Rattle.fleet_model.specs.Nodes.{tree_at, tree_or_empty}
-use Rattle.fleet_model.specs.Trees.{empty_segment}
 use Rattle.step_model.specs.Past.{World, fresh_world}
 use Rattle.step_laws.proofs.Fresh.{fresh_keeps}
-use Rattle.line_laws.specs.Undrained.{flushes_in}
 use Rattle.fleet_store.specs.Memory.{StoreParts}
 use Rattle.fleet_model.specs.Work.Parties.{LiveCoordinator}
 use Rattle.line_laws.specs.States.{FleetKeeps}
 use Rattle.std.specs.List.{AllByRecursion}
 use Rattle.fleet_worker.specs.Workers.{WorkerParts, live_of}
+use Rattle.line_laws.proofs.Scripts.{fresh_flushes}
 use Rattle.fleet_lines.specs.Fleets.{FleetParts, IsFresh, IsServing, IsUp, Stands, options_of}
 use Rattle.fleet_lines.specs.declared.options.FleetOptions.{FleetOptions}
 use Rattle.fleet_lines.proofs.Runs.{state_at}
-
--- A fresh store has no flush.
-no_flushes : (prefix : List ℕ) → flushes_in (tree_at prefix fresh_world.store.manifest.trees) ≡ []
-no_flushes prefix = by (bytes_eq prefix [])
-  where
-    by : (b : Bool) → flushes_in (tree_or_empty (cond b (Some (empty_segment [])) None)) ≡ []
-    by true = refl
-    by false = refl
 
 fresh_serves : (merge : Operator) (options : FleetOptions) (store : StoreParts) → options.worker.max_subcompactions < 2 ^ 32 → store.world ≡ fresh_world
     → IsServing merge (record { options = options; moment = 0; last_name = 0; store = store; coordinators = []; workers = [] })
 fresh_serves merge options store few fresh = rw fresh (record {
   stands = record {
-    keeps = record { store = fresh_keeps merge; workers = tt; coordinators = tt; workers_differ = tt; coordinators_differ = tt; none_pending = λ table. refl; finished = λ id. refl; flushes = λ specs faithful prefix. no_flushes prefix; counts = record { finished_once = tt; committed_once = tt; each = tt } };
+    keeps = record { store = fresh_keeps merge; workers = tt; coordinators = tt; workers_differ = tt; coordinators_differ = tt; none_pending = λ table. refl; finished = λ id. refl; flushes = λ specs faithful prefix. fresh_flushes prefix; counts = record { finished_once = tt; committed_once = tt; each = tt } };
     up = tt;
     few = few;
   };

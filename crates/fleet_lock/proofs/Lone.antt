@@ -1,8 +1,8 @@
 -- A call of the held store is a lawful call.
-use Rattle.std.proofs.Common.{◌≡◌, ℕ, List, [], ◌∷◌, ◌++◌, Bool, true, false, if◌then◌else◌, Option, Some, None, IsTrue, Result, Ok, Err, refl, sym, ap, ◌∙◌, subst, arith, true≢false}
+use Rattle.std.proofs.Common.{◌≡◌, ℕ, List, [], ◌∷◌, ◌++◌, Bool, true, false, if◌then◌else◌, Option, Some, None, Result, Ok, Err, refl, sym, ap, ◌∙◌, subst, arith, true≢false}
 use Rattle.row_model.specs.Fold.{Operator, IsLawful}
-use Rattle.fleet_model.specs.History.{Event, is_get_or_put}
-use Rattle.fleet_model.specs.Exchanges.{Exchange, Plain, DrawsJob, DrawsTable, PutsTable, PutsManifest, PutsRecords, ListsTables, DeletesTable, Fault, event_of, waiting_after, does_stand, records_version}
+use Rattle.fleet_model.specs.History.{Event}
+use Rattle.fleet_model.specs.Exchanges.{Exchange, PutsRecords, Fault, event_of, waiting_after, does_stand, records_version}
 use Rattle.fleet_model.specs.Store.{Store}
 use Rattle.step_model.specs.Past.{World}
 use Rattle.step_model.specs.Kept.Keeps.{Keeps}
@@ -25,6 +25,7 @@ use Rattle.fleet_store.specs.Exchanges.{records_put}
 use Rattle.fleet_store.specs.Memory.{StoreParts}
 use Rattle.fleet_store.specs.Strikes.{strike_by, waits_after, faults_after}
 use Rattle.fleet_store.specs.Under.{view_of}
+use Rattle.step_laws.proofs.Runs.{struck_has_room}
 use Rattle.fleet_lock.specs.Held.{HeldValue, store_of}
 use Rattle.fleet_lock.specs.Calls.{is_made, Alone, Grows, MayAlone, lone_view}
 use Rattle.fleet_lock.specs.Steps.{CallLeads, IsHeld}
@@ -38,17 +39,6 @@ struck_none event waits left s = (ap (λ b. if b then Some (does_stand waits) el
 struck_some : (event : Event) (waits left : Option Fault) (stands : Bool) → Strikes event waits left stands → (strike_by event waits ≡ Some stands) × (left ≡ waits_after event waits)
 struck_some event waits left stands s =
     (ap (λ b. if b then Some (does_stand waits) else None) s.struck ∙ ap (λ b. Some b) (sym s.as_said), s.used ∙ sym (ap (λ b. if b then None else waiting_after event waits) s.struck))
-
--- A call that a fault may strike needs no room.
-room_of : (x : Exchange) (world : World) → IsTrue (is_get_or_put (event_of x world.store)) → HasRoom world x
-room_of (Plain event) world counts = tt
-room_of (DrawsJob moment) world counts = absurd (cc counts)
-room_of (DrawsTable moment) world counts = absurd (cc counts)
-room_of (PutsTable table rows) world counts = tt
-room_of (PutsManifest version change value) world counts = tt
-room_of (PutsRecords version change epoch jobs) world counts = tt
-room_of ListsTables world counts = tt
-room_of (DeletesTable table) world counts = tt
 
 -- ---- one call
 
@@ -74,7 +64,7 @@ module _ {A : Type 0} (merge : Operator) (lent : ℕ) (p q : StoreParts) (x : St
   struck : IsStruck (x p.world.store) p.world before after → Leaves
   struck m =
       let s = struck_some (event_of (x p.world.store) p.world.store) p.waits q.waits m.stands (m.strikes refl) in
-      (room_of (x p.world.store) p.world m.counts, (m.leaves ∙ ap (λ (k : Strike). after_call p.line (party_of p.party) (x p.world.store) k p.world) (sym s.0), (s.1, m.one_fault refl ∙ ap (λ (k : Strike). faults_after k p.faults) (sym s.0))))
+      (struck_has_room (x p.world.store) p.world m.counts, (m.leaves ∙ ap (λ (k : Strike). after_call p.line (party_of p.party) (x p.world.store) k p.world) (sym s.0), (s.1, m.one_fault refl ∙ ap (λ (k : Strike). faults_after k p.faults) (sym s.0))))
 
   -- A call that was made left what the calls of the model leave, with or without a fault.
   made_leaves : (result : Result A SlateDBError) → is_made result ≡ true → Ended (x p.world.store) p.world before after (Gives p.world.store) (Refuses p.world.store) result → Leaves

@@ -1,5 +1,5 @@
 -- Which flushes went into runs after a job made its run, and in which order the sources of such a job are.
-use Rattle.std.proofs.Common.{◌≡◌, refl, sym, ◌∙◌, ap, subst, ℕ, List, [], ◌∷◌, ◌++◌, map, Bool, true, false, not, ◌||◌, ◌&&◌, cond, arith}
+use Rattle.std.proofs.Common.{◌≡◌, refl, sym, ◌∙◌, ap, subst, ℕ, List, [], ◌∷◌, ◌++◌, map, Bool, true, false, not, ◌&&◌, cond, arith}
 use Rattle.std.specs.Prelude.{◌==◌, bytes_eq, filter, find, flat_map, nat_le, nat_lt, option_map, Option, Some, None, ⊤}
 use Rattle.std.specs.List.{AllByRecursion, list_all, list_any}
 use Rattle.std.specs.List.Sorted.{IsStrictlySortedBy}
@@ -11,7 +11,7 @@ use Rattle.std.proofs.lemmas.Slice.Eq.{bytes_eq-Decides}
 use Rattle.row_model.specs.Rows.{key_cmp}
 use Rattle.fleet_model.specs.Work.Gates.{is_nonempty}
 use Rattle.fleet_model.specs.Jobs.{contains}
-use Rattle.fleet_model.specs.Nodes.{NodeName, L0, Run, is_l0, name_eq, segment_at, tree_at, tree_or_empty}
+use Rattle.fleet_model.specs.Nodes.{NodeName, L0, Run, is_l0, segment_at, tree_at, tree_or_empty}
 use Rattle.fleet_model.specs.Sources.{after_front, is_lowest_or_above, older_nodes, or_later, reaches_oldest, run_ids}
 use Rattle.fleet_model.specs.Trees.{source_nodes}
 use Rattle.fleet_tree.specs.Trees.{RunFlushes, tree_of, trees_of, trees_with_prefix}
@@ -29,6 +29,7 @@ use Rattle.fleet_jobs.specs.declared.source_id.SourceId.{SourceId}
 use Rattle.fleet_jobs.specs.declared.spec.CompactionSpec.{CompactionSpec}
 use Rattle.fleet_book.specs.Finishes.{finished_tree, is_named, kept_runs}
 use Rattle.fleet_book.specs.Laws.{FlushesFollow, FlushesFollowIn}
+use Rattle.fleet_book.proofs.FinishedRuns.{named_run}
 use Rattle.fleet_poll.specs.Made.{PrefixesRise, flushes_after, is_made}
 
 both_true : (a b : Bool) → (a && b) ≡ true → (a ≡ true) × (b ≡ true)
@@ -83,18 +84,6 @@ tree_found flushes p (t ∷ trees) s e = by (bytes_eq p t.0) e (tree_found flush
 -- Each run has another id.
 abbrev OthersHave : ℕ → List SortedRun → Type 0
 OthersHave id runs = AllByRecursion (λ run. (id == run.id) ≡ false) runs
-
-named_run : (id : ℕ) (sources : List SourceId) → contains (run_ids (map name_of sources)) id ≡ true → is_named sources (Run id) ≡ true
-named_run id [] there = there
-named_run id (source ∷ sources) there = by (name_of source) there (named_run id sources)
-  where
-    either : (b : Bool) → cond b true (contains (run_ids (map name_of sources)) id) ≡ true → (contains (run_ids (map name_of sources)) id ≡ true → is_named sources (Run id) ≡ true) → (b || is_named sources (Run id)) ≡ true
-    either true e rest = refl
-    either false e rest = rest e
-
-    by : (name : NodeName) → contains (run_ids (name ∷ map name_of sources)) id ≡ true → (contains (run_ids (map name_of sources)) id ≡ true → is_named sources (Run id) ≡ true) → (name_eq name (Run id) || is_named sources (Run id)) ≡ true
-    by (L0 n) e rest = rest e
-    by (Run n) e rest = either (n == id) e rest
 
 module _ (sources : List SourceId) (id : ℕ) where
   -- A run with another id than all runs that are not kept.

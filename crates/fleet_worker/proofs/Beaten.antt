@@ -33,7 +33,7 @@ use Rattle.fleet_worker.specs.Beats.{BeatenRecords, Beats, IsBeatOf, IsBeatPut, 
 use Rattle.fleet_worker.specs.Releases.{live_among}
 use Rattle.fleet_step.specs.Steps.{puts_and}
 use Rattle.fleet_worker.specs.Workers.{AreNoted, AttemptParts, IsNoted, WorkerParts, attempt_of, live_of}
-use Rattle.fleet_worker.proofs.Lists.{filter_map}
+use Rattle.fleet_claim.proofs.Lists.{filter_changed}
 use Rattle.step_laws.proofs.Elements.{all_append, all_back, all_front}
 
 -- ---- lists
@@ -152,10 +152,10 @@ module _ (moment : ℕ) (w : WorkerParts) (jobs : List JobParts) (report : BeatR
   report_is : beat_report (live_of w) (jobs_of jobs) ≡ beaten_with (live_parts jobs w.number w.attempts) report
   report_is =
       let p = is_live (jobs_of jobs) w.number in
-      rw (is.beat_is, is.lost_is, jobs_are (live_parts jobs w.number w.attempts), jobs_are (filter (λ a. not (p (attempt_of a))) w.attempts), filter_map p attempt_of w.attempts, filter_map (λ a. not (p a)) attempt_of w.attempts) refl
+      rw (is.beat_is, is.lost_is, jobs_are (live_parts jobs w.number w.attempts), jobs_are (filter (λ a. not (p (attempt_of a))) w.attempts), filter_changed p attempt_of w.attempts, filter_changed (λ a. not (p a)) attempt_of w.attempts) refl
 
   live_none : report.beat ≡ [] → live_among jobs w.number w.attempts ≡ []
-  live_none none = no_jobs (live_among jobs w.number w.attempts) (ap attempt_jobs (filter_map (is_live (jobs_of jobs) w.number) attempt_of w.attempts) ∙ (sym (jobs_are (live_parts jobs w.number w.attempts)) ∙ (sym is.beat_is ∙ none)))
+  live_none none = no_jobs (live_among jobs w.number w.attempts) (ap attempt_jobs (filter_changed (is_live (jobs_of jobs) w.number) attempt_of w.attempts) ∙ (sym (jobs_are (live_parts jobs w.number w.attempts)) ∙ (sym is.beat_is ∙ none)))
 
 -- There are no records.
 pub beats_none : (moment : ℕ) (w : WorkerParts) (report : BeatReport) → IsReport w [] report → IsBeatOf moment w None report None
@@ -187,7 +187,7 @@ module _ (moment : ℕ) (w : WorkerParts) (got : VersionedRecords) (report : Bea
 
       by : (live : List Attempt) → live ≡ live_among got.compactions.jobs w.number w.attempts → (again : ℕ → Course (StepEnd Beaten))
           → beat_of moment (live_of w) (records_of got) live again ≡ puts_and (records_put put.version put.value put.why) put.version (Ends (beat_ends_over w (report, Some got))) again
-      by [] e again = absurd (some (is.beat_is ∙ (jobs_are (live_parts got.compactions.jobs w.number w.attempts) ∙ ap attempt_jobs (sym (filter_map (is_live (jobs_of got.compactions.jobs) w.number) attempt_of w.attempts) ∙ sym e))))
+      by [] e again = absurd (some (is.beat_is ∙ (jobs_are (live_parts got.compactions.jobs w.number w.attempts) ∙ ap attempt_jobs (sym (filter_changed (is_live (jobs_of got.compactions.jobs) w.number) attempt_of w.attempts) ∙ sym e))))
       by (a ∷ live) e again =
           same_put _ _ _ _ _ _ _ _ _ _ again (sym puts.at) (ap (λ l. model.Beat w.number (named_attempts l)) e ∙ sym puts.why) (sym puts.made.epoch)
           (ap (λ l. jobs_after (record { moment = moment; published = published_by l; kept_cut = None; tables_of = λ spec. [] }) (model.Beat w.number (named_attempts l)) (jobs_of got.compactions.jobs)) e ∙ sym made) ends

@@ -1,6 +1,6 @@
 -- Records in which jobs are given back.
-use Rattle.std.proofs.Common.{◌≡◌, refl, sym, ◌∙◌, ap, subst, ℕ, Bool, true, false, cond, List, [], ◌∷◌, ◌||◌}
-use Rattle.std.specs.Prelude.{◌==◌, map, flat_map, Some, None}
+use Rattle.std.proofs.Common.{◌≡◌, refl, sym, ◌∙◌, ap, subst, ℕ, Bool, true, false, cond, List, [], ◌∷◌}
+use Rattle.std.specs.Prelude.{map, flat_map, Some, None}
 use Rattle.std.specs.List.{AllByRecursion}
 use Rattle.fleet_model.specs.Jobs.{Jobs, changed_jobs, contains, trimmed_jobs}
 use Rattle.fleet_model.specs.History as model
@@ -23,17 +23,10 @@ use Rattle.fleet_store.specs.Exchanges.{records_put}
 use Rattle.fleet_step.specs.Steps.{puts_and}
 use Rattle.fleet_model.specs.Work.Parties.{Attempt, attempt_jobs, named_attempts}
 use Rattle.fleet_history.specs.declared.record_change.RecordChange.TheVariants as change
-use Rattle.fleet_worker.proofs.Lists.{rising_map}
+use Rattle.fleet_claim.proofs.Puts.{named_contains}
+use Rattle.fleet_claim.proofs.Lists.{rising_map}
 use Rattle.fleet_worker.specs.Workers.{AttemptParts, WorkerParts, live_of}
 use Rattle.fleet_worker.specs.Releases.{GivesBack, IsReleaseOf, MakesRecords, given_back, is_named, live_among, released_are, waiting_record}
-
-named_contains : (attempts : List (ℕ × ℕ)) (job : ℕ) → is_named attempts job ≡ contains (firsts attempts) job
-named_contains [] job = refl
-named_contains (a ∷ attempts) job = by (a.0 == job) (named_contains attempts job)
-  where
-    by : (b : Bool) → is_named attempts job ≡ contains (firsts attempts) job → (b || is_named attempts job) ≡ cond b true (contains (firsts attempts) job)
-    by true rest = refl
-    by false rest = rest
 
 module _ (attempts : List (ℕ × ℕ)) where
   same_id : (job : JobParts) → (given_back attempts job).id ≡ job.id

@@ -11,7 +11,7 @@ use Rattle.fleet_claim.specs.Beginnings.{claimed_of}
 use Rattle.fleet_claim.specs.declared.beginning.ClaimedAttempt.{ClaimedAttempt}
 use Rattle.fleet_worker.specs.Claims.{attempts_at, next_parts, part_jobs, parts_of, put_part, with_parts, without_parts}
 use Rattle.fleet_worker.specs.Workers.{AttemptParts, attempt_of, run_at}
-use Rattle.fleet_worker.proofs.Lists.{filter_map}
+use Rattle.fleet_claim.proofs.Lists.{filter_changed}
 
 -- ---- the model's attempts
 
@@ -29,7 +29,7 @@ with_same [] xs = refl
 with_same (a ∷ new) xs = with_same new (put_part a xs) ∙ ap (with_attempts (map attempt_of new)) (put_same a xs)
 
 pub without_same : (stopped : List ℕ) (xs : List AttemptParts) → map attempt_of (without_parts stopped xs) ≡ without_attempts stopped (map attempt_of xs)
-without_same stopped xs = sym (filter_map (λ a. not (contains stopped a.job)) attempt_of xs)
+without_same stopped xs = sym (filter_changed (λ a. not (contains stopped a.job)) attempt_of xs)
 
 pub begun_same : (begun : List ClaimedAttempt) → map attempt_of (map parts_of begun) ≡ map claimed_of begun
 begun_same [] = refl

@@ -1,5 +1,4 @@
 pub mod Live
-pub mod Lists
 pub mod Later
 pub mod Ready
 pub mod GivenBack

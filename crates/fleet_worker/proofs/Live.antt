@@ -1,20 +1,11 @@
 -- Live attempts, as a worker finds them.
-use Rattle.std.proofs.Common.{◌≡◌, refl, sym, ◌∙◌, ap, ℕ, ◌==◌, Bool, true, false, cond, List, [], ◌∷◌, Option, Some, option_map}
-use Rattle.std.proofs.lemmas.Cmp.{nat_eq_equiv}
-use Rattle.fleet_model.specs.Jobs.{job_with}
+use Rattle.std.proofs.Common.{◌≡◌, sym, ap, ℕ, List, Option, option_map}
 use Rattle.fleet_model.specs.Work.Parties.{is_live, runs_attempt}
 use Rattle.fleet_jobs.specs.Parts.JobParts.{JobParts}
 use Rattle.fleet_jobs.specs.Jobs.{job_of, jobs_of}
 use Rattle.fleet_book.specs.Records.{record_with}
+use Rattle.fleet_book.proofs.ModelMerges.{looked}
 use Rattle.fleet_worker.specs.Workers.{AttemptParts, attempt_of}
-
-looked : (id : ℕ) (jobs : List JobParts) → job_with id (jobs_of jobs) ≡ option_map job_of (record_with id jobs)
-looked id [] = refl
-looked id (job ∷ jobs) = ap (λ b. cond b (Some (job_of job)) (job_with id (jobs_of jobs))) (nat_eq_equiv.symm id job.id) ∙ by (job.id == id) (looked id jobs)
-  where
-    by : (b : Bool) → job_with id (jobs_of jobs) ≡ option_map job_of (record_with id jobs) → cond b (Some (job_of job)) (job_with id (jobs_of jobs)) ≡ option_map job_of (cond b (Some job) (record_with id jobs))
-    by true rest = refl
-    by false rest = rest
 
 -- Whether an attempt is live is seen from the job that was found alone.
 pub found_live : (jobs : List JobParts) (worker id number : ℕ) (a : AttemptParts) (found : Option JobParts) → id ≡ a.job → number ≡ a.number → found ≡ record_with id jobs

@@ -1,6 +1,6 @@
 -- What a claim and the finishes of a round do: each job that was claimed is finished, and its sources stand.
 use Rattle.std.proofs.Common.{◌≡◌, refl, sym, ◌∙◌, ap, subst, ℕ, zero, suc, ◌+◌, ◌-◌, ◌≤◌, ◌<◌, List, [], ◌∷◌, map, Bool, true, false, cond, ◌⊎◌, inl, inr, Option, None, Some, length, arith}
-use Rattle.std.specs.Prelude.{◌==◌, ◌&&◌, ◌||◌, not, nat_lt, IsTrue, filter, take, is_none}
+use Rattle.std.specs.Prelude.{◌==◌, ◌&&◌, ◌||◌, not, IsTrue, filter, take, is_none}
 use Rattle.std.specs.List.{list_any, AllByRecursion}
 use Rattle.std.proofs.lemmas.Bool.Decides.{Decides-eqb}
 use Rattle.row_model.specs.Lists.{Pairs}
@@ -16,6 +16,7 @@ use Rattle.step_laws.proofs.Elements.{IsIn, all_at, contains_in}
 use Rattle.step_laws.proofs.Changed.{job_found}
 use Rattle.course_laws.proofs.Calls.{filtered, both}
 use Rattle.commit_laws.proofs.Midway.{only_job}
+use Rattle.line_laws.proofs.ClaimSettings.{still_with, in_put}
 use Rattle.last_laws.specs.Weights.{IsHeavy, Lightens}
 use Rattle.last_laws.proofs.Opens.{IsCalmNew}
 use Rattle.rival_laws.proofs.WorkerRecords.{running_active}
@@ -110,27 +111,6 @@ claims_some slots w jobs idle some leases calm active =
     some_taken (slots - length w.attempts) (filter (takeable w) jobs) (omega (arith, some, none)) (some_takeable w jobs idle leases calm active)
 
 -- ---- attempts
-
-in_put : (a : Attempt) (attempts : List Attempt) → IsIn a (put_attempt a attempts)
-in_put a [] = inl refl
-in_put a (b ∷ attempts) = by (nat_lt a.job b.job) (in_put a attempts)
-  where
-    by : (c : Bool) → IsIn a (put_attempt a attempts) → IsIn a (cond c (a ∷ b ∷ attempts) (b ∷ put_attempt a attempts))
-    by true rest = inl refl
-    by false rest = inr rest
-
-still_put : (a x : Attempt) (attempts : List Attempt) → IsIn x attempts → IsIn x (put_attempt a attempts)
-still_put a x [] there = absurd there
-still_put a x (b ∷ attempts) there = by (nat_lt a.job b.job) there (still_put a x attempts)
-  where
-    by : (c : Bool) → (b ≡ x) ⊎ IsIn x attempts → (IsIn x attempts → IsIn x (put_attempt a attempts)) → IsIn x (cond c (a ∷ b ∷ attempts) (b ∷ put_attempt a attempts))
-    by true there rest = inr there
-    by false (inl same) rest = inl same
-    by false (inr one) rest = inr (rest one)
-
-still_with : (new attempts : List Attempt) (x : Attempt) → IsIn x attempts → IsIn x (with_attempts new attempts)
-still_with [] attempts x there = there
-still_with (a ∷ new) attempts x there = still_with new (put_attempt a attempts) x (still_put a x attempts there)
 
 new_with : (new attempts : List Attempt) (x : Attempt) → IsIn x new → IsIn x (with_attempts new attempts)
 new_with [] attempts x there = absurd there

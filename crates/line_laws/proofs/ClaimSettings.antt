@@ -22,7 +22,7 @@ use Rattle.line_laws.proofs.WorkerLines.{is_worker}
 
 -- ---- attempts that are put among others
 
-in_put : (a : Attempt) (attempts : List Attempt) → IsIn a (put_attempt a attempts)
+pub in_put : (a : Attempt) (attempts : List Attempt) → IsIn a (put_attempt a attempts)
 in_put a [] = inl refl
 in_put a (b ∷ attempts) = by (nat_lt a.job b.job) (in_put a attempts)
   where
@@ -30,7 +30,7 @@ in_put a (b ∷ attempts) = by (nat_lt a.job b.job) (in_put a attempts)
     by true rest = inl refl
     by false rest = inr rest
 
-still_put : (a x : Attempt) (attempts : List Attempt) → IsIn x attempts → IsIn x (put_attempt a attempts)
+pub still_put : (a x : Attempt) (attempts : List Attempt) → IsIn x attempts → IsIn x (put_attempt a attempts)
 still_put a x [] there = absurd there
 still_put a x (b ∷ attempts) there = by (nat_lt a.job b.job) there (still_put a x attempts)
   where
@@ -39,7 +39,7 @@ still_put a x (b ∷ attempts) there = by (nat_lt a.job b.job) there (still_put 
     by false (inl same) rest = inl same
     by false (inr one) rest = inr (rest one)
 
-still_with : (new attempts : List Attempt) (x : Attempt) → IsIn x attempts → IsIn x (with_attempts new attempts)
+pub still_with : (new attempts : List Attempt) (x : Attempt) → IsIn x attempts → IsIn x (with_attempts new attempts)
 still_with [] attempts x there = there
 still_with (a ∷ new) attempts x there = still_with new (put_attempt a attempts) x (still_put a x attempts there)
 

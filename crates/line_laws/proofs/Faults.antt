@@ -1,22 +1,15 @@
 -- A fault cuts the calls of a course at the call that it strikes.
 use Rattle.std.proofs.Common.{◌≡◌, refl, sym, ◌∙◌, ap, ℕ, List, [], ◌∷◌, ◌++◌, cond, Bool, true, false, Option, Some, None, append-nil, append_assoc}
-use Rattle.std.specs.Prelude.{IsTrue, ◌&&◌, ◌==◌, map}
-use Rattle.fleet_model.specs.History.{Party, Event, is_get_or_put, Entry}
+use Rattle.std.specs.Prelude.{map}
+use Rattle.fleet_model.specs.History.{Party, Event, Entry}
 use Rattle.fleet_model.specs.Store.{Store}
 use Rattle.fleet_model.specs.Exchanges.{Exchange, Fault, event_of, answer_of, after_answered, strikes, waiting_after, struck_by, does_stand}
 use Rattle.step_model.specs.Courses.Course.{Course, Ends, Calls}
 use Rattle.step_model.specs.Courses.Alone.{AloneEnd, run_alone}
 use Rattle.course_laws.proofs.Later.{call_history}
+use Rattle.step_model.proofs.AloneRuns.{may_strike}
 use Rattle.line_laws.specs.Lines.PollRuns.{Answered, entry_of}
 use Rattle.line_laws.specs.Faults.{calls_made, answer_made, struck_answer, MadeOf, AllMade, CutAt, answer_if, RunsCut, FaultsCut}
-
-counts : (event : Event) (fault : Option Fault) → strikes event fault ≡ true → IsTrue (is_get_or_put event)
-counts event None e = absurd (cc e)
-counts event (Some fault) e = by (is_get_or_put event) (fault.k == 1) e
-  where
-    by : (a b : Bool) → (a && b) ≡ true → a ≡ true
-    by true b e = refl
-    by false b e = absurd (cc e)
 
 -- The history after a struck call.
 struck_history : (stands : Bool) (line : ℕ) (party : Party) (x : Exchange) (store : Store) → (struck_by stands line party x store).history ≡ store.history ++ entry_of line party (event_of x store, struck_answer stands (answer_of x store)) ∷ []
@@ -68,7 +61,7 @@ runs_cut {A} line party (Calls x next) fault store = by (strikes (event_of x sto
         → RunsCut line party (Calls x next) fault store (cond b (record { answer = None; store = struck_by (does_stand fault) line party x store; fault = None }) (run_alone line party (next store) (waiting_after (event_of x store) fault) (after_answered line party x store)))
     by true e rest = record {
       made = (event_of x store, struck_answer (does_stand fault) (answer_of x store)) ∷ [];
-      of = CutAt [] (event_of x store) (answer_of x store) (calls_made line party (next store) (after_answered line party x store)) (counts (event_of x store) fault e) refl refl;
+      of = CutAt [] (event_of x store) (answer_of x store) (calls_made line party (next store) (after_answered line party x store)) (may_strike (event_of x store) fault e) refl refl;
       history = struck_history (does_stand fault) line party x store;
       answer = refl;
     }

@@ -222,7 +222,7 @@ run_leads inputs number old [] (answer ∷ answers) new lawful is run = absurd r
 run_leads inputs number old (line ∷ lines) [] new lawful is run = absurd run
 
 -- A fresh store has no flush.
-fresh_flushes : (prefix : List ℕ) → flushes_in (tree_at prefix fresh_world.store.manifest.trees) ≡ []
+pub fresh_flushes : (prefix : List ℕ) → flushes_in (tree_at prefix fresh_world.store.manifest.trees) ≡ []
 fresh_flushes prefix = by (bytes_eq prefix [])
   where
     by : (b : Bool) → flushes_in (tree_or_empty (cond b (Some (empty_segment [])) None)) ≡ []

@@ -1,28 +1,26 @@
 -- What epochs, flushes and commits leave of the settings and tables of Running jobs.
 use Rattle.std.proofs.Common.{◌≡◌, refl, sym, ◌∙◌, ap, subst, ℕ, List, [], ◌∷◌, cond, Bool, true, false, inl, Some, arith}
-use Rattle.std.specs.Prelude.{IsTrue, ◌==◌, ◌&&◌, not, flat_map, ℤ}
+use Rattle.std.specs.Prelude.{IsTrue, not, flat_map, ℤ}
 use Rattle.std.specs.List.{AllByRecursion, concat}
-use Rattle.std.proofs.lemmas.Bool.Decides.{Decides-eqb}
 use Rattle.row_laws.proofs.RetentionReads.{int_le_trans}
 use Rattle.row_model.specs.Fold.{Operator}
 use Rattle.fleet_model.specs.Nodes.{Node, Trees, tree_at, table_rows}
-use Rattle.fleet_model.specs.Jobs.{JobSpec, Job, Status, Submitted, Scheduled, Running, Compacted, Completed, Failed, status_eq, has_status, is_finished, is_active, job_with, contains}
+use Rattle.fleet_model.specs.Jobs.{JobSpec, Job, Status, Submitted, Scheduled, Running, Compacted, Completed, Failed, status_eq, has_status, is_finished, job_with, contains}
 use Rattle.fleet_model.specs.History.{Party, Worker, ManifestChange, ManifestEpoch, Flush, Commit, Step, Join, Move, Drain}
-use Rattle.fleet_model.specs.Handles.{tree_tables, job_tables, context_tables}
+use Rattle.fleet_model.specs.Handles.{tree_tables, context_tables}
 use Rattle.fleet_model.specs.Trees.{stepped_in, stepped_all}
 use Rattle.fleet_model.specs.Store.{Manifest, stored_jobs}
 use Rattle.fleet_model.specs.Past.Replay.{outputs_in}
 use Rattle.fleet_model.specs.Invariants.JobsFit.{SourcesStand, AreOldest}
 use Rattle.step_model.specs.Past.{World}
 use Rattle.step_model.specs.Entries.{was_flushed}
-use Rattle.step_model.specs.LawfulTables.{IsOwnTable, other_tables}
+use Rattle.step_model.specs.LawfulTables.{IsOwnTable}
 use Rattle.step_model.specs.LawfulManifests.{ManifestFits, ManifestEpochFits, FlushFits, CommitFits, StepsFit}
 use Rattle.step_model.specs.Kept.NamesKept.{DrawsKept}
 use Rattle.step_model.specs.Kept.TablesKept.{IsFlush}
 use Rattle.step_model.specs.Kept.Keeps.{Keeps}
 use Rattle.step_laws.proofs.Elements.{IsIn, all_at, all_from, all_to, all_flat, all_unflat, in_contains, contains_no, in_back}
 use Rattle.step_laws.proofs.Bodies.{Body, whole_of}
-use Rattle.step_laws.proofs.Deletions.{in_flat, in_filter}
 use Rattle.step_laws.proofs.Changed.{IsFound, found_job, job_found}
 use Rattle.step_laws.proofs.TableReplays.{TreesAll, step_all}
 use Rattle.step_laws.proofs.PollJobs.{stretch_in, node_flushed, tree_has}
@@ -30,6 +28,7 @@ use Rattle.step_laws.proofs.FlushNodes.{Differ, source_differs, known_differs, n
 use Rattle.step_laws.proofs.FlushTrees.{rising_from}
 use Rattle.step_laws.proofs.FlushFollows.{oldest_on}
 use Rattle.step_laws.proofs.ManifestEpochs.{not_stored}
+use Rattle.step_laws.proofs.OwnTables.{unnamed}
 use Rattle.rival_laws.proofs.CommitsOldest.{running_stand, not_both, commits_leave_oldest}
 use Rattle.step_laws.proofs.KnownJobs.{outputs_are}
 use Rattle.rival_laws.proofs.Outcomes.{put_manifest}
@@ -68,24 +67,6 @@ flush_spares merge world specs party n name segment floor tick value b draws fit
 })
 
 -- ---- a commit
-
--- No other active job names a table that is the worker's own.
-pub not_named_by : (party : Party) (world : World) (id t : ℕ) (other : Job) → IsOwnTable party world id t → IsIn other (stored_jobs world.store) → IsTrue (is_active other) → (id ≡ other.id → ⊥) → IsIn t (job_tables other) → ⊥
-not_named_by party world id t other own there active differs named =
-    refused (contains (other_tables id (stored_jobs world.store)) t) own.unnamed
-    (in_contains (other_tables id (stored_jobs world.store)) t (in_flat job_tables _ other t (in_filter (λ (job : Job). is_active job && not (id == job.id)) (stored_jobs world.store) other there (both (is_active other) (not (id == other.id)) active (unequal (id == other.id) refl))) named))
-  where
-    refused : (b : Bool) → b ≡ false → b ≡ true → ⊥
-    refused true e f = absurd (cc e)
-    refused false e f = absurd (cc f)
-
-    both : (a b : Bool) → IsTrue a → IsTrue b → (a && b) ≡ true
-    both true b h k = k
-    both false b h k = absurd (cc h)
-
-    unequal : (b : Bool) → (id == other.id) ≡ b → IsTrue (not b)
-    unequal true e = absurd (differs ((Decides-eqb id other.id).0 e))
-    unequal false e = refl
 
 -- It is not this table.
 abbrev pub IsNot : ℕ → ℕ → Type 0
@@ -135,7 +116,7 @@ commit_tables world others t spared trees joined (Drain id ∷ steps) fits h =
 -- A table that is the worker's own for a Running job is none of the outputs that wait for a commit.
 running_spared : (merge : Operator) (world : World) (specs : ℕ → JobSpec) (n : ℕ) (job : Job) (t : ℕ) → Body merge world specs → IsIn job (stored_jobs world.store) → IsTrue (has_status Running job) → IsOwnTable (Worker n) world job.id t → AreSpared world t
 running_spared merge world specs n job t b there runs own other among finished one =
-    not_named_by (Worker n) world job.id t other own among (compacted_active other.status finished) (λ e. not_both job.status runs (subst (λ (j : Job). IsTrue (has_status Compacted j))
+    unnamed (Worker n) world job.id t other own among (compacted_active other.status finished) (λ e. not_both job.status runs (subst (λ (j : Job). IsTrue (has_status Compacted j))
     (sym (same (sym (found_job (stored_jobs world.store) job b.sound.job_ids there) ∙ ap (λ i. job_with i (stored_jobs world.store)) e ∙ found_job (stored_jobs world.store) other b.sound.job_ids among))) finished))
     (in_back t (context_tables other.context) (concat other.outputs) one)
   where

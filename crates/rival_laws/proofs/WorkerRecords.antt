@@ -35,7 +35,7 @@ use Rattle.rival_laws.proofs.SameParty.{same_party}
 use Rattle.rival_laws.proofs.AttemptFacts.{HasNone, submitted_none, origin_kept}
 use Rattle.rival_laws.proofs.WorkerFollows.{Follows, from_filter}
 use Rattle.rival_laws.proofs.WorkerCalls.{claim_grows, did_grows, held_sources}
-use Rattle.rival_laws.proofs.WorkerManifests.{not_named_by}
+use Rattle.step_laws.proofs.OwnTables.{unnamed}
 use Rattle.step_laws.proofs.FlushNodes.{refused}
 use Rattle.step_laws.proofs.Claims.{scheduled_open}
 use Rattle.step_laws.proofs.Quiet.{claimed_up_to}
@@ -140,7 +140,7 @@ old_spares : (merge : Operator) (world : World) (specs : ℕ → JobSpec) (party
 old_spares merge world specs party w job c there = record {
   running = λ runs leased. there;
   sources = λ a one h same. held_sources world w.number a job h (subst (λ id. job_with id (stored_jobs world.store) ≡ Some job) same (found_job (stored_jobs world.store) job c.body.sound.job_ids there));
-  tables = λ active id t own differs named. not_named_by (Worker w.number) world id t job own there active differs named;
+  tables = λ active id t own differs named. unnamed (Worker w.number) world id t job own there active differs named;
 }
 
 -- The attempt that the worker claimed is named, and at most the stored one.

@@ -1,5 +1,5 @@
 -- Each text is a script, or has a first bad line.
-use Rattle.std.proofs.Common.{◌≡◌, ◌≢◌, ℕ, zero, suc, ◌+◌, ◌<◌, ◌≤◌, Bool, true, false, ◌⊎◌, inl, inr, List, [], ◌∷◌, ◌++◌, length, refl, sym, ap, ◌∙◌, subst, arith, append_assoc, append-nil, length-append}
+use Rattle.std.proofs.Common.{◌≡◌, ◌≢◌, ℕ, zero, suc, ◌+◌, ◌≤◌, Bool, true, false, ◌⊎◌, inl, inr, List, [], ◌∷◌, ◌++◌, length, refl, sym, ap, ◌∙◌, subst, arith, append_assoc, append-nil}
 use Rattle.std.specs.List.{join_with_byte}
 use Rattle.script_model.specs.Script.{Line, words, spelt_line, IsInBounds, script_text, Grammar, AreLines, IsScript, IsBadAt}
 use Rattle.script_model.specs.Grammars.{is_options, is_served, full_grammar, served_grammar}
@@ -7,7 +7,7 @@ use Rattle.script_laws.specs.Laws.{IsBounded}
 use Rattle.script_laws.proofs.Pieces.{Lacks, same_front, no_front}
 use Rattle.script_laws.proofs.LineWords.{line_lacks}
 use Rattle.script_laws.proofs.SameLines.{same_joined}
-use Rattle.script_laws.proofs.Scripts.{with_newline, script_text-push, AreLines-push}
+use Rattle.script_laws.proofs.Scripts.{after_shorter, with_newline, script_text-push, AreLines-push}
 use Rattle.spelling_laws.specs.Laws.{OneOfThem}
 use Rattle.spelling_laws.proofs.Spelt.{Decided, SpeltOrNot, same_or_not, both_or_not}
 use Rattle.spelling_laws.proofs.SpeltLines.{spelt_or_not}
@@ -57,13 +57,6 @@ begins_or_not grammar bounds decided before text = by (first_or_lacks 10 text)
     by (inr lacks) = inr (λ line more allowed e. no_front 10 text (join_with_byte 32 (words line)) more lacks (e ∙ with_newline (join_with_byte 32 (words line)) more))
 
 -- ---- a whole text
-
--- The text after a line is shorter than the text that begins with the line.
-after_shorter : (line : Line) (more rest : List ℕ) → rest ≡ spelt_line line ++ more → length more < length rest
-after_shorter line more rest e =
-    let front = join_with_byte 32 (words line) in
-    let whole = ap length (e ∙ with_newline front more) ∙ length-append front (10 ∷ more) in
-    omega (arith, whole)
 
 abbrev IsOneOfThem : Grammar → List ℕ → Type 0
 IsOneOfThem grammar text = ((lines : List Line) × IsScript grammar text lines) ⊎ ((n : ℕ) × IsBadAt grammar text n)

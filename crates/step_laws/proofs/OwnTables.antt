@@ -54,7 +54,7 @@ pub record NamesOwn (party : Party) (world : World) (new : ℕ → List ℕ) (f 
   pub fresh : (x y : Job) → IsTrue (contains these x.id) → IsTrue (contains these y.id) → (x.id ≡ y.id → ⊥) → (t : ℕ) → IsIn t (new x.id) → IsIn t (new y.id) → ⊥
 
 -- No other active job names a table that was in no use.
-unnamed : (party : Party) (world : World) (id t : ℕ) (other : Job) → IsOwnTable party world id t → IsIn other (stored_jobs world.store) → IsTrue (is_active other) → (id ≡ other.id → ⊥) → IsIn t (job_tables other) → ⊥
+pub unnamed : (party : Party) (world : World) (id t : ℕ) (other : Job) → IsOwnTable party world id t → IsIn other (stored_jobs world.store) → IsTrue (is_active other) → (id ≡ other.id → ⊥) → IsIn t (job_tables other) → ⊥
 unnamed party world id t other own there active differs named =
     refused (contains (other_tables id (stored_jobs world.store)) t) own.unnamed
     (in_contains (other_tables id (stored_jobs world.store)) t (in_flat job_tables _ other t (in_filter (λ (job : Job). is_active job && not (id == job.id)) (stored_jobs world.store) other there (both (is_active other) (not (id == other.id)) active (unequal (id == other.id) refl))) named))

@@ -23,7 +23,7 @@ pub record IsRun {A : Type 0} (who : Caller) (course : Course A) (old : World) (
 no_rivals : (who : Caller) (world : World) → Rivals who world world
 no_rivals who world = record { calls = []; lead = refl; none = λ alone. refl }
 
-may_strike : (event : Event) (fault : Option Fault) → strikes event fault ≡ true → IsTrue (is_get_or_put event)
+pub may_strike : (event : Event) (fault : Option Fault) → strikes event fault ≡ true → IsTrue (is_get_or_put event)
 may_strike event None is = absurd (cc is)
 may_strike event (Some fault) is = by (is_get_or_put event) (fault.k == 1) is
   where

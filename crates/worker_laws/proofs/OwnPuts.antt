@@ -28,7 +28,7 @@ use Rattle.step_laws.proofs.RecordsBodies.{with_records, faithful_before_records
 use Rattle.step_laws.proofs.Changed.{on_these, by_these, all_on_these, found_job, job_found, in_trimmed}
 use Rattle.rival_laws.proofs.WorkerFollows.{from_filter, fewer_pairs, runs_number}
 use Rattle.rival_laws.proofs.WorkerCalls.{claim_grows, did_grows, held_sources}
-use Rattle.rival_laws.proofs.WorkerManifests.{not_named_by}
+use Rattle.step_laws.proofs.OwnTables.{unnamed}
 use Rattle.rival_laws.proofs.WorkerRecords.{from_flat}
 
 -- ---- what the put has to leave
@@ -125,7 +125,7 @@ unnamed_still world w f these entry version epoch a id t put there live lacks sa
     Names job = IsTrue (is_active job) → (id ≡ job.id → ⊥) → IsIn t (job_tables job) → ⊥
 
     old_names : (was : Job) → IsIn was (stored_jobs world.store) → Names was
-    old_names was one active other named = not_named_by (Worker w.number) world id t was own one active other named
+    old_names was one active other named = unnamed (Worker w.number) world id t was own one active other named
 
     now_names : (was : Job) → IsIn was (stored_jobs world.store) → Names (on_these f these was)
     now_names was one = by_these Names f these was

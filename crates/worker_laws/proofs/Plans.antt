@@ -34,7 +34,7 @@ use Rattle.step_laws.proofs.OwnTables.{apart_from, apart_at}
 use Rattle.commit_laws.proofs.Midway.{two_jobs}
 use Rattle.rival_laws.proofs.WorkerFollows.{Follows, holds_after, from_filter}
 use Rattle.rival_laws.proofs.WorkerCalls.{claim_grows}
-use Rattle.rival_laws.proofs.WorkerManifests.{not_named_by}
+use Rattle.step_laws.proofs.OwnTables.{unnamed}
 use Rattle.rival_laws.proofs.Workers.{rivals_follow}
 use Rattle.course_laws.proofs.Beats.{Fit}
 use Rattle.course_laws.proofs.Made.{Relies}
@@ -281,7 +281,7 @@ begun_apart merge world b job other k s lives other_lives own differs = apart_fr
 
     clash : (t : ℕ) → IsIn t (job_tables (left_of b job)) → MayUse (Worker b.w.number) world m.job t → ⊥
     clash t one (inl named) = named_apart t (two_jobs NameApart (stored_jobs world.store) m.job (left_of b job) (whole_of merge world k).body.name_apart its mine ids_differ) one (contains_in (job_tables m.job) t named)
-    clash t one (inr free) = not_named_by (Worker b.w.number) world m.job.id t (left_of b job) free mine refl ids_differ one
+    clash t one (inr free) = unnamed (Worker b.w.number) world m.job.id t (left_of b job) free mine refl ids_differ one
 
 -- What a started attempt adds to a worker that fits.
 adds : (merge : Operator) (world : World) (b : Began) (job : Job) (attempts : List Attempt) → Keeps merge world → IsStarted merge world b job → WorkerHolds merge world (record b.w { attempts = attempts }) → AllByRecursion (λ other. other.job ≡ job.id → ⊥) attempts

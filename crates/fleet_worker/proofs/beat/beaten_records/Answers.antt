@@ -2,7 +2,7 @@ use Rattle.std.proofs.Common.{◌∙◌, sym, ap, subst, map}
 use Rattle.fleet_book.specs.Records.{AreRising}
 use Rattle.fleet_book.specs.declared.compactions.Compactions.{Compactions}
 use Rattle.fleet_worker.proofs.Beaten.{same_id}
-use Rattle.fleet_worker.proofs.Lists.{rising_map}
+use Rattle.fleet_claim.proofs.Lists.{rising_map}
 use Rattle.fleet_worker.proofs.beat.beaten_records.Goals as goal
 
 pub from_vec-requires : goal.from_vec-requires
