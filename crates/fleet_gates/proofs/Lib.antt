@@ -3,3 +3,4 @@ pub mod ModelTrees
 pub mod FirstRules
 pub mod HeldNodes
 pub mod NodeTables
+pub mod Stands

@@ -3,3 +3,4 @@ pub mod Shown
 pub mod Held
 pub mod Laws
 pub mod Tables
+pub mod Places

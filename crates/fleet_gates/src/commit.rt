@@ -13,9 +13,10 @@ ghost use Rattle.fleet_jobs.specs.Specs.{segment_of, sources_of, spec_of};
 ghost use Rattle.fleet_gates.specs.Rules.{accept_each, rule_number};
 ghost use Rattle.fleet_gates.specs.Shown.{accepted_on, shown_trees};
 
+use crate::places::has_all;
 use crate::{Rule, scheduler_rule, source_tables};
 use fleet_book::CompactorStateView;
-use fleet_jobs::{Compaction, CompactionSpec, NodeSet, nodes_at};
+use fleet_jobs::{Compaction, CompactionSpec, nodes_at};
 use fleet_rows::SlateDBError;
 use fleet_sched::CompactionScheduler;
 use fleet_tree::ManifestCore;
@@ -72,8 +73,7 @@ fn has_sources(
         (map name_of (sources_of spec.now))) }
 {
     let nodes = nodes_at(alloc, spec.segment().as_slice(), core)?;
-    let there = NodeSet::of_nodes(alloc, &nodes)?;
-    Ok(there.contains_all(spec.sources()))
+    has_all(alloc, &nodes, spec.sources())
 }
 
 // Whether the sources have the tables that they had when the job was opened.

@@ -4,6 +4,7 @@
 mod commit;
 mod held;
 mod laws;
+mod places;
 mod rule;
 mod scheduled;
 mod submit;

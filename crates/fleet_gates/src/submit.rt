@@ -3,25 +3,28 @@
 ghost use Rattle.std.specs.Prelude.{◌≡◌, ◌&&◌, ◌||◌, ℕ, List, drop, is_some, map, not, take, IfOk, IsOkUnless};
 ghost use Rattle.fleet_model.specs.Work.Gates.{are_distinct, first_failing, is_nonempty, names_older, submit_gate};
 ghost use Rattle.fleet_model.specs.Jobs.{Jobs, is_drain};
-ghost use Rattle.fleet_model.specs.Nodes.{Trees, names, segment_at, tree_at};
+ghost use Rattle.fleet_model.specs.Nodes.{Trees, names, tree_at};
 ghost use Rattle.fleet_model.specs.Sources.{older_nodes, reaches_oldest};
 ghost use Rattle.fleet_tree.specs.Trees.{RunFlushes, trees_of};
 ghost use Rattle.fleet_jobs.specs.Jobs.{job_of};
+ghost use Rattle.fleet_jobs.specs.Places.{nodes_in};
 ghost use Rattle.fleet_jobs.specs.Sources.{name_of};
 ghost use Rattle.fleet_jobs.specs.Specs.{segment_of, sources_of, spec_of};
 ghost use Rattle.fleet_gates.specs.Held.{Decides};
+ghost use Rattle.fleet_gates.specs.Places.{names_of_runs};
 ghost use Rattle.fleet_gates.specs.Rules.{accept_each, rule_number, rules_for};
 ghost use Rattle.fleet_gates.specs.Shown.{accepted_on, shown_trees};
 
+use crate::places::{are_stretch, has_all};
 use crate::{Rule, scheduler_rule};
 use fleet_book::CompactorStateView;
 use fleet_jobs::{
     Compaction, CompactionSpec, NodeSet, SourceId, are_distinct, destination_fits,
-    is_whole_stretch, names_older, nodes_at,
+    is_whole_stretch, names_older, tree_nodes,
 };
 use fleet_rows::SlateDBError;
 use fleet_sched::CompactionScheduler;
-use fleet_tree::ManifestCore;
+use fleet_tree::{LsmTreeState, ManifestCore};
 use std::alloc::{AllocError, Global};
 
 /// The first rule that a submitted job fails on the trees of this view, or None if the job may be
@@ -118,18 +121,38 @@ fn tree_rule(
         (λ rule. rule_number rule ≡ first_failing
         (take 4 (drop 2 (rules_for (trees_of flushes core.now) jobs lost (job_of job.now))))) }
 {
-    if !has_tree(core, job.spec()) {
-        return Ok(Some(Rule::Tree));
+    match core.tree_for_segment(job.spec().segment().as_slice()) {
+        Some(tree) => rule_in_tree(alloc, tree, job),
+        None => Ok(Some(Rule::Tree)),
     }
-    let nodes = nodes_at(alloc, job.spec().segment().as_slice(), core)?;
+}
+
+// The first of the rules 4 to 6 that the job fails, if this is its tree. Most jobs join runs that
+// are one after the other. No list of the nodes is made for these.
+fn rule_in_tree(
+    alloc: Global,
+    tree: &LsmTreeState,
+    job: &Compaction,
+) -> Result<Option<Rule>, AllocError>
+    ensures { (trees : Trees) (jobs : Jobs) (lost : List ℕ)
+        → names (tree_at (segment_of job.now.spec) trees) ≡ nodes_in tree.now
+        → IfOk result (λ rule. rule_number rule
+        ≡ first_failing (take 3 (drop 3 (rules_for trees jobs lost (job_of job.now))))) }
+{
+    if joins_runs(job.spec(), tree) {
+        return Ok(None);
+    }
+    let nodes = tree_nodes(alloc, tree)?;
     place_rule(alloc, &nodes, job)
 }
 
-fn has_tree(core: &ManifestCore, spec: &CompactionSpec) -> bool
-    ensures { (flushes : RunFlushes) → result
-        ≡ is_some (segment_at (segment_of spec.now) (trees_of flushes core.now)) }
+// Whether the job is no drain, and its sources are runs of the tree, one after the other.
+fn joins_runs(spec: &CompactionSpec, tree: &LsmTreeState) -> bool
+    ensures { result ≡ (not (is_drain (spec_of spec.now))
+        && is_some (older_nodes (map name_of (sources_of spec.now))
+        (names_of_runs tree.now.compacted))) }
 {
-    core.tree_for_segment(spec.segment().as_slice()).is_some()
+    !spec.is_drain() && are_stretch(spec.sources(), tree.compacted.as_slice())
 }
 
 // The first of the rules 4 to 6 that the job fails, if its tree has these nodes.
@@ -144,8 +167,7 @@ fn place_rule(
         ≡ first_failing (take 3 (drop 3 (rules_for trees jobs lost (job_of job.now))))) }
 {
     let spec = job.spec();
-    let there = NodeSet::of_nodes(alloc, nodes)?;
-    if !there.contains_all(spec.sources()) {
+    if !has_all(alloc, nodes, spec.sources())? {
         return Ok(Some(Rule::SourcesInTree));
     }
     if !may_stretch(spec, nodes) {

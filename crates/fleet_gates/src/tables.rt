@@ -1,7 +1,7 @@
 //! The tables of the sources of a job.
 
 ghost use Rattle.std.specs.Option.{option_or};
-ghost use Rattle.std.specs.Prelude.{◌≡◌, ◌==◌, ◌++◌, ℕ, map, option_map, IfOk, None, OnOk, Some, if◌then◌else◌};
+ghost use Rattle.std.specs.Prelude.{◌≡◌, ◌==◌, ◌++◌, ℕ, find, map, option_map, IfOk, None, OnOk, Some, if◌then◌else◌};
 ghost use Rattle.std.specs.BTreeMap.{get};
 ghost use Rattle.std.specs.Option.{option_copied, option_to_list};
 ghost use Rattle.std.specs.Ordering.{nat_cmp};
@@ -13,6 +13,7 @@ ghost use Rattle.fleet_jobs.specs.Specs.{spec_of};
 ghost use Rattle.fleet_jobs.specs.Taken.{run_with};
 ghost use Rattle.fleet_gates.specs.Tables.{HasTables, flush_table, tables_if_there, tables_in, tables_of};
 
+use crate::places::are_few;
 use fleet_jobs::{CompactionSpec, SourceId};
 use fleet_rows::Ulid;
 use fleet_tree::{FlushList, LsmTreeState, ManifestCore, SortedRun, SsTableView};
@@ -35,7 +36,84 @@ pub fn source_tables(
     }
 }
 
+// The ids of the tables that the sources have in the tree. A few sources are looked for one by one.
 fn tables_in(
+    alloc: Global,
+    tree: &LsmTreeState,
+    sources: &[SourceId],
+) -> Result<Vec<Ulid>, AllocError>
+    ensures { IfOk result (λ tables. tables.items ≡ tables_in tree.now sources.now) }
+{
+    if are_few(sources) {
+        return found_tables(alloc, tree, sources);
+    }
+    mapped_tables(alloc, tree, sources)
+}
+
+// The same, with a look at the tree for each source.
+fn found_tables(
+    alloc: Global,
+    tree: &LsmTreeState,
+    sources: &[SourceId],
+) -> Result<Vec<Ulid>, AllocError>
+    ensures { IfOk result (λ tables. tables.items ≡ tables_in tree.now sources.now) }
+{
+    let mut tables = Vec::new(alloc);
+    'sources: for source in sources {
+        add_found(&mut tables, *source, tree)?;
+    }
+    Ok(tables)
+}
+
+// Adds the ids of the tables that a source has in the tree.
+fn add_found(
+    tables: &mut Vec<Ulid>,
+    source: SourceId,
+    tree: &LsmTreeState,
+) -> Result<(), AllocError>
+    ensures { OnOk result (tables.new.items ≡ tables.old.items ++ tables_of tree.now source) }
+{
+    match source {
+        SourceId::SstView(id) => add_table_of_flush(tables, tree.l0.with_id(id)),
+        SourceId::SortedRun(id) => add_tables_of_run(tables, found_run(id, tree)),
+    }
+}
+
+fn found_run(id: u32, tree: &LsmTreeState) -> Option<&SortedRun>
+    ensures { option_copied result ≡ run_with (Some id) tree.now.compacted }
+{
+    first_run(id, tree.compacted.as_slice())
+}
+
+// The first run with this id.
+fn first_run(id: u32, runs: &[SortedRun]) -> Option<&SortedRun>
+    ensures { option_copied result ≡ find (λ run. run.id == id) runs.now }
+{
+    runs.iter().find(|run| run.id == id)
+}
+
+fn add_table_of_flush(tables: &mut Vec<Ulid>, view: Option<&SsTableView>) -> Result<(), AllocError>
+    ensures { OnOk result (tables.new.items ≡ tables.old.items
+        ++ option_to_list (option_map (λ view. view.sst.id) (option_copied view.entry))) }
+{
+    if let Some(view) = view {
+        tables.push(view.sst.id)?;
+    }
+    Ok(())
+}
+
+fn add_tables_of_run(tables: &mut Vec<Ulid>, run: Option<&SortedRun>) -> Result<(), AllocError>
+    ensures { OnOk result (tables.new.items ≡ tables.old.items
+        ++ tables_if_there (option_map (λ run. run.views) (option_copied run.entry))) }
+{
+    if let Some(run) = run {
+        add_view_tables(tables, run.sst_views())?;
+    }
+    Ok(())
+}
+
+// The same, by maps of the whole tree.
+fn mapped_tables(
     alloc: Global,
     tree: &LsmTreeState,
     sources: &[SourceId],

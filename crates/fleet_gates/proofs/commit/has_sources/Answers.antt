@@ -1,4 +1,4 @@
-use Rattle.std.proofs.Common.{◌∙◌, sym, ap, map}
+use Rattle.std.proofs.Common.{◌≡◌, ◌∙◌, sym, ap, map, subst, IfOk}
 use Rattle.std.specs.List.{list_all}
 use Rattle.fleet_model.specs.Nodes.{names_contain}
 use Rattle.fleet_jobs.specs.Places.{nodes_at}
@@ -12,7 +12,6 @@ returns c = λ flushes.
     let core = c.args.core.now in
     let p = segment_of c.args.spec.now in
     let at = c.as_slice.ensures ∙ c.segment.ensures in
-    let nodes = c.in_ok-there.ensures ∙ ap (map name_of) c.deref.ensures.value ∙ c.in_ok-nodes.ensures ∙ ap (λ q. nodes_at q core) at ∙ sym (nodes_are_the_models flushes p core) in
-    c.contains_all.ensures
-    ∙ ap (λ sources. list_all (names_contain c.in_ok-there.there) (map name_of sources)) c.sources.ensures
-    ∙ ap (λ there. list_all (names_contain there) (map name_of (sources_of c.args.spec.now))) nodes
+    let nodes = ap (map name_of) c.deref.ensures.value ∙ c.in_ok-nodes.ensures ∙ ap (λ q. nodes_at q core) at ∙ sym (nodes_are_the_models flushes p core) in
+    let has = subst (λ sources. IfOk c.has_all.result (λ has. has ≡ list_all (names_contain (map name_of c.deref.result.now)) (map name_of sources))) c.sources.ensures c.has_all.ensures in
+    subst (λ names. IfOk c.has_all.result (λ has. has ≡ list_all (names_contain names) (map name_of (sources_of c.args.spec.now)))) nodes has

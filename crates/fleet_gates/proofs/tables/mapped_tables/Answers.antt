@@ -3,7 +3,7 @@ use Rattle.std.specs.Prelude.{Some, option_map}
 use Rattle.fleet_jobs.specs.Taken.{run_with}
 use Rattle.fleet_gates.specs.Tables.{HasTables}
 use Rattle.fleet_gates.proofs.NodeTables.{tables_more}
-use Rattle.fleet_gates.proofs.tables.tables_in.Goals as goal
+use Rattle.fleet_gates.proofs.tables.mapped_tables.Goals as goal
 
 pub sources-preserved : goal.sources-preserved
 sources-preserved c =
