@@ -27,7 +27,7 @@ same_found point taken older = by taken.ground
     by ground.Nothing = refl
 
 -- Rows under one that hides them change nothing.
-hidden : (point : ReadPoint) (taken : KeyRows) (rows others : List Row) → is_hiding taken.ground ≡ true → ◌≡◌ {A = Found} (parts_with point taken rows) (parts_with point taken others)
+pub hidden : (point : ReadPoint) (taken : KeyRows) (rows others : List Row) → is_hiding taken.ground ≡ true → ◌≡◌ {A = Found} (parts_with point taken rows) (parts_with point taken others)
 hidden point taken rows others hides = by taken.ground hides
   where
     by : (g : Ground) → is_hiding g ≡ true → ◌≡◌ {A = Found} (base_over g (read_parts point rows).0, operands_under g (read_parts point rows).1 ++ reverse taken.operands.items) (base_over g (read_parts point others).0, operands_under g (read_parts point others).1 ++ reverse taken.operands.items)

@@ -6,3 +6,4 @@ mod Steps
 mod KeyTaken
 mod Calls
 mod Ranged
+mod SameKeys

@@ -1,5 +1,5 @@
 -- What the steps of a scan do to the rows left and to their answers.
-use Rattle.std.proofs.Common.{◌≡◌, refl, sym, ◌∙◌, ap, subst, ℕ, ◌<◌, List, [], ◌∷◌, ◌++◌, length, true, false, Option, Some, None, append-nil, length-append, arith}
+use Rattle.std.proofs.Common.{◌≡◌, refl, sym, ◌∙◌, ap, subst, ℕ, ◌<◌, List, [], ◌∷◌, ◌++◌, length, Bool, true, false, Option, Some, None, append-nil, length-append, arith}
 use Rattle.std.specs.Prelude.{option_map, reverse, bytes_eq, Ok}
 use Rattle.std.specs.List.{cons_option}
 use Rattle.std.specs.List.Sorted.{IsStrictlySortedBy}
@@ -7,15 +7,15 @@ use Rattle.std.proofs.lemmas.List.{append_assoc}
 use Rattle.row_model.specs.Fold.{Operator, Outcome, fold_bytes}
 use Rattle.row_model.specs.Rows.{Row, IsStrictlyOrdered}
 use Rattle.row_laws.proofs.Elements.{all_append}
-use Rattle.fleet_iter.specs.Iteration.{IteratorState}
+use Rattle.fleet_iter.specs.Iteration.{IteratorState, Nexts, Ends}
 use Rattle.fleet_fold.specs.Retention.{from_ahead}
 use Rattle.fleet_rows.specs.Row.{row_of}
 use Rattle.fleet_rows.specs.declared.row.RowEntry.{RowEntry}
 use Rattle.fleet_scan.specs.Answers.{answers_of, BeginsApart, HaveKey}
 use Rattle.fleet_scan.specs.Answered.{pair_of, Takes}
-use Rattle.fleet_scan.specs.KeyRows.{read_parts, base_of, base_over, operands_under, parts_with, IsBegun, Adds}
+use Rattle.fleet_scan.specs.KeyRows.{read_parts, base_of, base_over, is_hiding, operands_under, parts_with, IsBegun, Adds}
 use Rattle.fleet_scan.specs.ScanState.{scanning}
-use Rattle.fleet_scan.specs.Walk.{IsReading, TakesFirst, TakesSoFar, TakesKey, GivesKey, Gives}
+use Rattle.fleet_scan.specs.Walk.{AddsAhead, IsReading, TakesFirst, TakesSoFar, TakesKey, GivesKey, Gives, goes_on}
 use Rattle.fleet_scan.specs.declared.answer.KeyAnswer.{KeyAnswer}
 use Rattle.fleet_scan.specs.declared.key_rows.Ground.{Ground}
 use Rattle.fleet_scan.specs.declared.key_rows.Ground.TheVariants as ground
@@ -23,6 +23,7 @@ use Rattle.fleet_scan.specs.declared.key_rows.KeyRows.{KeyRows}
 use Rattle.fleet_scan.specs.declared.key_rows.ReadPoint.{ReadPoint}
 use Rattle.fleet_scan.proofs.KeyByKey.{answers-first}
 use Rattle.fleet_scan.proofs.Keys.{ordered_back}
+use Rattle.fleet_scan.proofs.KeyTaken.{hidden}
 
 -- ---- an iterator whose rows are read
 
@@ -69,6 +70,42 @@ pub takes_to_end : (point : ReadPoint) (taken all : KeyRows) (old s new : Iterat
 takes_to_end point taken all old s new later none same empty reading h =
     let left : from_ahead later new ≡ [] = ap (λ (o : Option RowEntry). from_ahead o new) empty ∙ ap (λ (t : IteratorState). t.rows) same ∙ none in
     takes_all point taken all old s new later (none ∙ sym left) (subst (BeginsApart all.key) (sym left) tt) reading h
+
+-- ---- the rows that are read ahead
+
+-- A row under one that hides it is as good as taken.
+pub adds_hidden : (point : ReadPoint) (taken : KeyRows) (ahead : Option RowEntry) → is_hiding taken.ground ≡ true → AddsAhead point taken ahead taken
+adds_hidden point taken None hides = tt
+adds_hidden point taken (Some row) hides = record { key = refl; parts = λ later. hidden point taken later (row_of row ∷ later) hides }
+
+-- The first row after the key is read ahead, or none is left.
+pub ahead_ends : (point : ReadPoint) (taken all : KeyRows) (old s new : IteratorState) (later : Option RowEntry) → Nexts s new (Ok later) → goes_on all.key later ≡ false → IsReading s
+    → TakesSoFar point taken old all s → TakesKey point taken old all later new
+ahead_ends point taken all old s new None next apart reading h =
+    let ends : Ends s new = next.answers reading.readable.0 reading.readable.1 in
+    takes_to_end point taken all old s new None ends.rows ends.same refl (subst IsReading (sym ends.same) reading) h
+ahead_ends point taken all old s new (Some row) next apart reading h =
+    let is : s ≡ record new { rows = row_of row ∷ new.rows } = next.answers reading.readable.0 reading.readable.1 in
+    takes_up_to point taken all old s new row (ap (λ (t : IteratorState). t.rows) is) apart (reads_next s new (row_of row ∷ new.rows) is reading) h
+
+-- A row of the key is read ahead and taken.
+pub ahead_taken : (point : ReadPoint) (taken more all : KeyRows) (old s new : IteratorState) (ahead : Option RowEntry) → Nexts s new (Ok ahead) → goes_on more.key ahead ≡ true → IsReading s
+    → TakesSoFar point taken old more s → AddsAhead point more ahead all → TakesSoFar point taken old all new
+ahead_taken point taken more all old s new None next same reading h adds = absurd (cc same)
+ahead_taken point taken more all old s new (Some row) next same reading h adds =
+    let is : s ≡ record new { rows = row_of row ∷ new.rows } = next.answers reading.readable.0 reading.readable.1 in
+    takes_one point taken more all old s new row (ap (λ (t : IteratorState). t.rows) is) same h adds
+
+pub ahead_reads : (s new : IteratorState) (ahead : Option RowEntry) (key : List ℕ) → Nexts s new (Ok ahead) → goes_on key ahead ≡ true → IsReading s → IsReading new
+ahead_reads s new None key next same reading = absurd (cc same)
+ahead_reads s new (Some row) key next same reading = reads_next s new (row_of row ∷ new.rows) (next.answers reading.readable.0 reading.readable.1) reading
+
+pub ahead_fewer : (s new : IteratorState) (ahead : Option RowEntry) (key : List ℕ) → Nexts s new (Ok ahead) → goes_on key ahead ≡ true → IsReading s → length new.rows < length s.rows
+ahead_fewer s new None key next same reading = absurd (cc same)
+ahead_fewer s new (Some row) key next same reading =
+    let is : s ≡ record new { rows = row_of row ∷ new.rows } = next.answers reading.readable.0 reading.readable.1 in
+    let long : length s.rows ≡ length (row_of row ∷ new.rows) = ap (λ (t : IteratorState). length t.rows) is in
+    omega (arith, long)
 
 -- ---- the answer of a key
 

@@ -1,15 +1,15 @@
 -- Walking over the rows that a scan has left, key after key.
-use Rattle.std.specs.Prelude.{◌≡◌, ℕ, ◌<◌, true, List, [], ◌++◌, length, Option, None}
+use Rattle.std.specs.Prelude.{◌≡◌, ℕ, ◌<◌, Bool, true, false, List, [], ◌++◌, length, Option, Some, None, bytes_eq, ⊤}
 use Rattle.std.specs.List.{cons_option}
 use Rattle.std.specs.Option.{option_to_list}
 use Rattle.row_model.specs.Rows.{Row, IsStrictlyOrdered}
 use Rattle.row_model.specs.Fold.{Operator, Outcome}
 use Rattle.fleet_iter.specs.Iteration.{IteratorState}
 use Rattle.fleet_fold.specs.Retention.{from_ahead, IsReadable}
-use Rattle.fleet_rows.specs.Row.{rows_of}
+use Rattle.fleet_rows.specs.Row.{row_of, rows_of}
 use Rattle.fleet_rows.specs.declared.row.RowEntry.{RowEntry}
 use Rattle.fleet_scan.specs.Answers.{answers_of, BeginsApart, HaveKey}
-use Rattle.fleet_scan.specs.KeyRows.{parts_with}
+use Rattle.fleet_scan.specs.KeyRows.{Adds, parts_with}
 use Rattle.fleet_scan.specs.declared.key_rows.KeyRows.{KeyRows}
 use Rattle.fleet_scan.specs.declared.key_rows.ReadPoint.{ReadPoint}
 
@@ -25,6 +25,16 @@ pub record TakesFirst (ahead : Option RowEntry) (old : IteratorState) (first : O
   pub none : later ≡ None
   pub reading : IsReading new
   pub ends : first ≡ None → new.rows ≡ []
+
+-- Whether a row was read ahead that has this key.
+abbrev pub goes_on : List ℕ → Option RowEntry → Bool
+goes_on key None = false
+goes_on key (Some row) = bytes_eq key row.key
+
+-- The row that was read ahead is taken, if there is one.
+abbrev pub AddsAhead : ReadPoint → KeyRows → Option RowEntry → KeyRows → Type 0
+AddsAhead point old None new = ⊤
+AddsAhead point old (Some row) new = Adds point old (row_of row) new
 
 -- Some rows of a key are taken, and the others are still to be read.
 pub record TakesSoFar (point : ReadPoint) (taken : KeyRows) (old : IteratorState) (more : KeyRows)

@@ -71,6 +71,30 @@ fn is_reached(stamp: Option<i64>, moment: i64) -> bool
     }
 }
 
+// Whether two keys are the same. It compares eight bytes at once.
+#[inline]
+fn are_same(key: &[u8], other: &[u8]) -> bool
+    ensures { result ≡ bytes_eq key.now other.now }
+{
+    let mut rest = key;
+    let mut other_rest = other;
+    'words: while let Some(bytes) = rest.first_chunk::<8>()
+        && let Some(other_bytes) = other_rest.first_chunk::<8>()
+    {
+        let word = u64::from_be_bytes(*bytes);
+        let other_word = u64::from_be_bytes(*other_bytes);
+        if word != other_word {
+            return false;
+        }
+        rest = &rest[8..];
+        other_rest = &other_rest[8..];
+    }
+    if rest.is_empty() && other_rest.is_empty() {
+        return true;
+    }
+    rest == other_rest
+}
+
 /// What the rows of a key that were taken so far leave for a read.
 #[derive(Debug, Drop)]
 pub(crate) struct KeyRows {
@@ -125,10 +149,11 @@ impl KeyRows {
     }
 
     /// Whether a row has the key.
+    #[inline]
     pub(crate) fn has(&self, row: &RowEntry) -> bool
         ensures { result ≡ bytes_eq self.now.key row.now.key }
     {
-        self.key == row.key
+        are_same(self.key.as_slice(), row.key.as_slice())
     }
 
     /// Takes a row of the key that is older than all taken before.

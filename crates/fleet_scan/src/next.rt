@@ -6,14 +6,14 @@ ghost use Rattle.fleet_fold.specs.Retention.{from_ahead};
 ghost use Rattle.fleet_rows.specs.Row.{row_of};
 ghost use Rattle.fleet_rows.specs.declared.errors.SlateDBError.TheVariants as SlateDBError;
 ghost use Rattle.fleet_scan.specs.Answered.{pair_of};
-ghost use Rattle.fleet_scan.specs.Walk.{Gives, GivesKey, IsReading, TakesFirst, TakesKey};
+ghost use Rattle.fleet_scan.specs.Walk.{AddsAhead, Gives, GivesKey, IsReading, TakesFirst, TakesKey, goes_on};
 
 use crate::KeyAnswer;
 use crate::key_rows::{KeyRows, ReadPoint};
 use fleet_fold::BatchMerger;
 use fleet_iter::RowSource;
 use fleet_rows::{RowEntry, SlateDBError};
-use std::alloc::Global;
+use std::alloc::{AllocError, Global};
 
 // Takes the next row: the one that was read ahead, if there is one.
 fn take_first<T: RowSource>(
@@ -34,6 +34,37 @@ fn take_first<T: RowSource>(
     }
 }
 
+// Whether a row was read ahead that has the key of the rows taken.
+fn goes_on(taken: &KeyRows, ahead: &Option<RowEntry>) -> bool
+    ensures { result ≡ goes_on taken.now.key ahead.now }
+{
+    match ahead {
+        Some(row) => taken.has(row),
+        None => false,
+    }
+}
+
+// Takes the row that was read ahead, which has the key. One under a row that hides it stays where it
+// is: it costs no move.
+fn take_ahead(
+    point: ReadPoint,
+    ahead: &mut Option<RowEntry>,
+    taken: &mut KeyRows,
+) -> Result<(), AllocError>
+    ensures { OnOk result (AddsAhead point taken.old ahead.old taken.new) }
+{
+    if taken.is_hiding() {
+        return Ok(());
+    }
+    match ahead.take() {
+        Some(row) => {
+            taken.add(point, row)?;
+            Ok(())
+        }
+        None => Ok(()),
+    }
+}
+
 // Takes the other rows of a key, and reads the first row after them ahead.
 fn take_key<T: RowSource>(
     alloc: Global,
@@ -50,14 +81,13 @@ fn take_key<T: RowSource>(
     ensures memory { IsOkUnless result SlateDBError.Memory }
     ensures sound { T.sound source.new }
 {
-    'rows: while let Some(row) = source.next_row(alloc)? {
-        if !taken.has(&row) {
-            *ahead = Some(row);
+    'rows: loop {
+        *ahead = source.next_row(alloc)?;
+        if !goes_on(taken, ahead) {
             return Ok(());
         }
-        taken.add(point, row)?;
+        take_ahead(point, ahead, taken)?;
     }
-    Ok(())
 }
 
 // Takes all rows of the key of `first`, and answers the key. None if a read of it finds nothing.

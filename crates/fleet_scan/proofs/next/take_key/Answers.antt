@@ -1,44 +1,33 @@
-use Rattle.std.proofs.Common.{rules, ◌≡◌, ◌∷◌, [], ap, sym, subst, false, true}
-use Rattle.std.specs.Prelude.{bytes_eq}
-use Rattle.fleet_iter.specs.Iteration.{IteratorState}
-use Rattle.fleet_rows.specs.Row.{row_of}
-use Rattle.fleet_scan.specs.Walk.{IsReading}
-use Rattle.fleet_scan.proofs.Steps.{reads_next, takes_none, takes_one, takes_up_to, takes_to_end}
+use Rattle.std.proofs.Common.{rules, ◌≡◌, false, true}
+use Rattle.fleet_scan.specs.Walk.{goes_on}
+use Rattle.fleet_scan.proofs.Steps.{takes_none, ahead_ends, ahead_taken, ahead_reads, ahead_fewer}
 use Rattle.fleet_scan.proofs.next.take_key.Goals as goal
 
 pub rows-init : goal.rows-init
 rows-init g c = record {
   sound = c.requires.sound;
   reading = c.requires.reading;
-  none = c.requires.none;
   so_far = takes_none c.args.point c.args.taken.now (g.T.RowSource.state c.args.source.now);
 }
 
-pub returns-then-not-has-clause-key : goal.returns-then-not-has-clause-key
-returns-then-not-has-clause-key g c =
-    let s = g.T.RowSource.state c.rows.source in
-    let new = g.T.RowSource.state c.next_row.new.self in
-    let next : s ≡ record new { rows = row_of c.in-Some.row ∷ new.rows } = search rules in
-    let other : bytes_eq c.rows.taken.key c.in-Some.row.key ≡ false = search rules in
-    takes_up_to c.args.point c.args.taken.now c.rows.taken (g.T.RowSource.state c.args.source.now) s new c.in-Some.row (ap (λ (t : IteratorState). t.rows) next) other (reads_next s new (row_of c.in-Some.row ∷ new.rows) next c.rows.invariant.reading) c.rows.invariant.so_far
+pub returns-then-not-goes_on-clause-key : goal.returns-then-not-goes_on-clause-key
+returns-then-not-goes_on-clause-key g c =
+    let f = g.T.RowSource.state in
+    let apart : goes_on c.rows.taken.key c.in_ok-ahead.field-0 ≡ false = search rules in
+    ahead_ends c.args.point c.args.taken.now c.rows.taken (f c.args.source.now) (f c.rows.source) (f c.next_row.new.self) c.in_ok-ahead.field-0 c.in_ok-ahead.ensures.next apart c.rows.invariant.reading c.rows.invariant.so_far
 
 pub rows-preserved : goal.rows-preserved
 rows-preserved g c =
-    let s = g.T.RowSource.state c.rows.source in
-    let new = g.T.RowSource.state c.next_row.new.self in
-    let next : s ≡ record new { rows = row_of c.in-Some.row ∷ new.rows } = search rules in
-    let same : bytes_eq c.rows.taken.key c.in-Some.row.key ≡ true = search rules in
+    let f = g.T.RowSource.state in
+    let more : goes_on c.rows.taken.key c.in_ok-ahead.field-0 ≡ true = search rules in
     record {
-      sound = search rules;
-      reading = reads_next s new (row_of c.in-Some.row ∷ new.rows) next c.rows.invariant.reading;
-      none = c.rows.invariant.none;
-      so_far = takes_one c.args.point c.args.taken.now c.rows.taken c.add.new.self (g.T.RowSource.state c.args.source.now) s new c.in-Some.row (ap (λ (t : IteratorState). t.rows) next) same c.rows.invariant.so_far c.in_ok-add.ensures;
+      sound = c.in_ok-ahead.ensures.sound;
+      reading = ahead_reads (f c.rows.source) (f c.next_row.new.self) c.in_ok-ahead.field-0 c.rows.taken.key c.in_ok-ahead.ensures.next more c.rows.invariant.reading;
+      so_far = ahead_taken c.args.point c.args.taken.now c.rows.taken c.take_ahead.new.taken (f c.args.source.now) (f c.rows.source) (f c.next_row.new.self) c.in_ok-ahead.field-0 c.in_ok-ahead.ensures.next more c.rows.invariant.reading c.rows.invariant.so_far c.in_ok-take_ahead.ensures;
     }
 
-pub returns-clause-key : goal.returns-clause-key
-returns-clause-key g c =
-    let s = g.T.RowSource.state c.rows.source in
-    let new = g.T.RowSource.state c.next_row.new.self in
-    let none : s.rows ≡ [] = search rules in
-    let same : s ≡ new = search rules in
-    takes_to_end c.args.point c.args.taken.now c.rows.taken (g.T.RowSource.state c.args.source.now) s new c.rows.ahead none (sym same) c.rows.invariant.none (subst IsReading same c.rows.invariant.reading) c.rows.invariant.so_far
+pub rows-smaller : goal.rows-smaller
+rows-smaller g c =
+    let f = g.T.RowSource.state in
+    let more : goes_on c.rows.taken.key c.in_ok-ahead.field-0 ≡ true = search rules in
+    ahead_fewer (f c.rows.source) (f c.next_row.new.self) c.in_ok-ahead.field-0 c.rows.taken.key c.in_ok-ahead.ensures.next more c.rows.invariant.reading

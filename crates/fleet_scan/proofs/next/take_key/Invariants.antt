@@ -1,8 +1,8 @@
-use Rattle.std.proofs.Common.{◌≡◌, None, length}
+use Rattle.std.proofs.Common.{length}
 use Rattle.fleet_scan.specs.Walk.{IsReading, TakesSoFar}
 use Rattle.fleet_scan.proofs.next.take_key.Given as goal
 
--- The rows that were read are taken, and no row is read ahead.
+-- The rows that were read are taken.
 abbrev pub invariant-rows : goal.invariant-rows
 invariant-rows g l =
     let s = g.T.RowSource.state l.source in
@@ -10,7 +10,6 @@ invariant-rows g l =
     record {
       sound : g.T.RowSource.sound l.source;
       reading : IsReading s;
-      none : l.ahead ≡ None;
       so_far : TakesSoFar l.point l.fn.taken old l.taken s;
     }
 

@@ -1,0 +1,40 @@
+-- Keys compared by words, for whether they are the same.
+use Rattle.std.proofs.Common.{◌≡◌, ◌≢◌, ◌∙◌, refl, sym, ap, ℕ, ◌≤◌, List, [], ◌∷◌, length, take, false, true, arith}
+use Rattle.std.specs.Prelude.{bytes_eq, ◌==◌}
+use Rattle.std.specs.Int.{w64, from_be_bytes}
+use Rattle.std.specs.Ordering.{nat_cmp, is_eq}
+use Rattle.std.specs.Cmp.{ranked}
+use Rattle.std.specs.Cmp.Lexicographic.{texts_ties}
+use Rattle.std.specs.declared.cmp.Ordering.{Ordering}
+use Rattle.std.specs.declared.cmp.Ordering.TheVariants.{Less, Equal, Greater}
+use Rattle.std.proofs.lemmas.Bool.Decides.{Decides-eqb}
+use Rattle.fleet_rows.proofs.Words.{AreLeft, words_answer}
+
+unequal : (x y : ℕ) → x ≢ y → is_eq (nat_cmp x y) ≡ false
+unequal x y far = by (nat_cmp x y) refl
+  where
+    by : (o : Ordering) → o ≡ nat_cmp x y → is_eq o ≡ false
+    by Less is = refl
+    by Equal is = absurd (far (ranked x y Equal is))
+    by Greater is = refl
+
+-- Keys are other ones where two of their words differ.
+pub words_differ : (key other xs ys us vs : List ℕ) (x y : ℕ) → AreLeft key other xs ys → 8 ≤ length xs → 8 ≤ length ys → us ≡ take 8 xs → vs ≡ take 8 ys
+    → x ≡ from_be_bytes w64 us → y ≡ from_be_bytes w64 vs → x ≢ y → bytes_eq key other ≡ false
+words_differ key other xs ys us vs x y left long far first next word other_word apart =
+    texts_ties key other
+    ∙ (ap is_eq (sym (words_answer key other xs ys us vs x y (nat_cmp x y) left long far first next word other_word apart refl)) ∙ unequal x y apart)
+
+-- Keys are the same if what is left of them is.
+pub rest_decides : (key other xs ys : List ℕ) → AreLeft key other xs ys → bytes_eq xs ys ≡ bytes_eq key other
+rest_decides key other xs ys left = texts_ties xs ys ∙ (ap is_eq (sym left.same) ∙ sym (texts_ties key other))
+
+both_empty : (xs ys : List ℕ) → length xs ≡ 0 → length ys ≡ 0 → bytes_eq xs ys ≡ true
+both_empty [] [] none other = refl
+both_empty [] (y ∷ ys) none other = absurd (omega (arith, other))
+both_empty (x ∷ xs) ys none other = absurd (omega (arith, none))
+
+-- Keys are the same if nothing is left of them.
+pub nothing_left : (key other xs ys : List ℕ) → AreLeft key other xs ys → (length xs == 0) ≡ true → (length ys == 0) ≡ true → true ≡ bytes_eq key other
+nothing_left key other xs ys left none empty =
+    sym (both_empty xs ys ((Decides-eqb (length xs) 0).0 none) ((Decides-eqb (length ys) 0).0 empty)) ∙ rest_decides key other xs ys left
