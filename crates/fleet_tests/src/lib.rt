@@ -33,9 +33,9 @@ mod ranges;
 #[cfg(test)]
 mod rivals;
 #[cfg(test)]
-mod scripts;
+mod run_ranges;
 #[cfg(test)]
-mod seeks;
+mod scripts;
 #[cfg(test)]
 mod spelt;
 #[cfg(test)]
