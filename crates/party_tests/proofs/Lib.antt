@@ -1,0 +1,4 @@
+pub mod Hands
+pub mod Finished
+pub mod Names
+pub mod Starts

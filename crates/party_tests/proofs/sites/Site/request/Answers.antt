@@ -1,0 +1,8 @@
+use Rattle.std.proofs.Common.{ap}
+use Rattle.party_tests.proofs.Starts.{idle_after}
+use Rattle.party_tests.proofs.sites.Site.request.Goals as goal
+
+pub invariant_of-self : goal.invariant_of-self
+invariant_of-self g c =
+    let same = ap (λ o. g.O.MergeOperator.merged (g.O.MergeOperator.settings o)) c.under-under.ensures.operator in
+    idle_after _ _ _ _ _ c.submit_request.ensures.ran _ same c.submit_request.ensures.keeps c.idle.result c.idle.ensures

@@ -1,0 +1,3 @@
+pub mod Callers
+pub mod Refusing
+pub mod Starts
