@@ -21,7 +21,7 @@ lacks byte bytes = list_all (λ other. not (nat_eq other byte)) bytes
 
 -- Bytes are accepted if there are fewer than 2^32 of them, and if the byte that the settings name is not
 -- among them.
-abbrev pub is_accepted : List ℕ → List ℕ → Bool
+abbrev pub is_accepted : (s bytes : List ℕ) → Bool
 is_accepted [] bytes = is_short bytes
 is_accepted (unwanted ∷ s) bytes = is_short bytes && lacks unwanted bytes
 

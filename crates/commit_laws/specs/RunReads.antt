@@ -24,7 +24,7 @@ run_for id pieces taken = record {
 
 -- Each node of a part of a tree keeps reads. The flag says that no node of the tree is older than the
 -- part.
-abbrev pub PartKeepsReads : Operator → Store → Bool → Tree → Type 0
+abbrev pub PartKeepsReads : (merge : Operator) (store : Store) (oldest : Bool) (tree : Tree) → Type 0
 PartKeepsReads merge store oldest [] = ⊤
 PartKeepsReads merge store oldest (node ∷ []) = NodeKeepsReads merge store oldest node
 PartKeepsReads merge store oldest (node ∷ other ∷ tree) =

@@ -16,7 +16,7 @@ Tells of first bytes place found = (r : Row) (others : List ℕ) → IsWritable 
     → drop place bytes ≡ row_bytes first r ++ others → IsFound (λ x. x) (of r) others bytes found
 
 -- The reader passed over what stands at a place, and the other bytes follow.
-abbrev pub IsPassed : List ℕ → List ℕ → Option ℕ → Type 0
+abbrev pub IsPassed : (others bytes : List ℕ) (found : Option ℕ) → Type 0
 IsPassed others bytes None = ⊥
 IsPassed others bytes (Some place) = drop place bytes ≡ others
 

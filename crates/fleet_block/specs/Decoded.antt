@@ -66,7 +66,7 @@ abbrev pub header_in : List ℕ → ℕ × List ℕ
 header_in bytes = let count = number_in w16 bytes in (count.0, drop 8 count.1)
 
 -- The rows of blocks that have so many rows each.
-abbrev pub blocks_in : List ℕ → List ℕ → List Row
+abbrev pub blocks_in : (counts bytes : List ℕ) → List Row
 blocks_in [] bytes = []
 blocks_in (count ∷ counts) bytes = let block = block_in count bytes in block.0 ++ blocks_in counts block.1
 

@@ -6,12 +6,13 @@ use Rattle.row_model.specs.Written.Sizes.{block_bytes, estimated_size}
 use Rattle.row_model.specs.Written.TableBytes.{bytes_of_blocks, header_bytes, row_bytes, rows_bytes, IsWritable}
 
 -- The reader found this value, and after it are the other bytes.
-abbrev pub IsFound : {A V : Type 0} → (V → A) → A → List ℕ → List ℕ → Option (V × ℕ) → Type 0
+abbrev pub IsFound : {A V : Type 0} → (view : V → A) (x : A) (others bytes : List ℕ) (found : Option (V × ℕ)) → Type 0
 IsFound view x others bytes None = ⊥
 IsFound view x others bytes (Some found) = (view found.0 ≡ x) × (drop found.1 bytes ≡ others)
 
 -- If the bytes from the place on begin with the spelling of a value that fits, the reader finds that value.
-abbrev pub Finds : {A V : Type 0} → (V → A) → (A → List ℕ) → (A → Type 0) → List ℕ → ℕ → Option (V × ℕ) → Type 0
+abbrev pub Finds : {A V : Type 0} → (view : V → A) (spelt : A → List ℕ) (Fits : A → Type 0) (bytes : List ℕ) (place : ℕ)
+    (found : Option (V × ℕ)) → Type 0
 Finds {A} view spelt Fits bytes place found = (x : A) (others : List ℕ) → Fits x
     → drop place bytes ≡ spelt x ++ others → IsFound view x others bytes found
 

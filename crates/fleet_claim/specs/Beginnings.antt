@@ -93,8 +93,8 @@ pub record Begins (release : Release) (options : CompactionWorkerOptions) (momen
       (settings_at core options moment job.spec (nodes_at (segment_of job.spec) core)) release job.ctx a.ctx
 
 -- The same, or without an attempt the job cannot start.
-abbrev pub IsBeginning : Release → CompactionWorkerOptions → ℕ → ManifestCore → JobParts
-    → Option ClaimedAttempt → Type 0
+abbrev pub IsBeginning : (release : Release) (options : CompactionWorkerOptions) (moment : ℕ) (core : ManifestCore)
+    (job : JobParts) (found : Option ClaimedAttempt) → Type 0
 IsBeginning release options moment core job None = can_begin core job ≡ false
 IsBeginning release options moment core job (Some a) = Begins release options moment core job a
 

@@ -25,7 +25,8 @@ pub record IsFresh (views : List View) (most : ℕ) (settings : Settings) (relea
   pub planned : (rows : View → List Row) → AreOfRows rows views → ranges_of keys ≡ planned_ranges most (map rows views)
 
 -- The context is the published one, as this release keeps it, or a fresh one if none is published.
-abbrev pub IsContext : List View → ℕ → Settings → Release → Option ContextParts → ContextParts → Type 0
+abbrev pub IsContext : (views : List View) (most : ℕ) (settings : Settings) (release : Release)
+    (published : Option ContextParts) (context : ContextParts) → Type 0
 IsContext views most settings release None context = IsFresh views most settings release context
 IsContext views most settings release (Some published) context =
     context ≡ context_with published.ranges (settings_in published) release

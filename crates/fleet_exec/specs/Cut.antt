@@ -61,7 +61,8 @@ abbrev pub RefusesJobRange : (merge : Operator) (sources : Sources) (job : Range
 RefusesJobRange merge sources job e = RefusesRangeUnless merge (rows_read sources job) (made_of merge sources job) e
 
 -- What is left of a range of a job is finished as `IsFinished` says, or refused as `RefusesJobRange` says.
-abbrev pub FinishesRange : Operator → Sources → ℕ → RangeJob → Result (List (List RowEntry)) SlateDBError → Type 0
+abbrev pub FinishesRange : (merge : Operator) (sources : Sources) (size : ℕ) (job : RangeJob)
+    (result : Result (List (List RowEntry)) SlateDBError) → Type 0
 FinishesRange merge sources size job (Ok tables) = IsFinished size (made_of merge sources job) (map rows_of tables)
 FinishesRange merge sources size job (Err e) = RefusesJobRange merge sources job e
 

@@ -25,7 +25,8 @@ all_rows sources = merged_rows (map source_rows sources)
 
 -- Calls gave these tables one after the other. Each call was asked for one of these numbers of rows. The
 -- first call began after the cursor, and each later one after the last row of the tables before.
-abbrev pub AreTaken : Operator → Settings → Range → Sources → Option Cursor → List ℕ → List (List RowEntry) → Type 0
+abbrev pub AreTaken : (merge : Operator) (settings : Settings) (range : Range) (sources : Sources)
+    (cursor : Option Cursor) (sizes : List ℕ) (tables : List (List RowEntry)) → Type 0
 AreTaken merge settings range sources cursor [] [] = ⊤
 AreTaken merge settings range sources cursor [] (table ∷ tables) = ⊥
 AreTaken merge settings range sources cursor (most ∷ sizes) [] = ⊥

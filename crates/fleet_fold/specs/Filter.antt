@@ -63,7 +63,8 @@ abbrev pub ends_well : Filtered → Bool
 ends_well f = is_ok f.end
 
 -- The state of a filtered iterator. If the filter was closed, no row is left.
-abbrev pub filtering : Option SlateDBError → Bool → Answers → Closing → IteratorState → IteratorState
+abbrev pub filtering : (failure : Option SlateDBError) (ended : Bool) (answers : Answers) (closing : Closing)
+    (inner : IteratorState) → IteratorState
 filtering failure true answers closing inner = record {
   rows = [];
   initialised = inner.initialised;
@@ -84,7 +85,8 @@ filtering failure false answers closing inner =
     }
 
 -- The call gives the next row that the filter leaves, or it closes the filter at the end of the rows.
-abbrev pub Gives : Filtered → Bool → Option RowEntry → Filtered → Bool → IteratorState → Type 0
+abbrev pub Gives : (old : Filtered) (whole : Bool) (row : Option RowEntry) (new : Filtered) (closed : Bool)
+    (inner : IteratorState) → Type 0
 Gives old whole None new closed inner = (old.rows ≡ []) × (old.end ≡ Ok tt) × (whole ≡ true) × (closed ≡ true)
 Gives old whole (Some row) new closed inner =
     (old ≡ record new { rows = row_of row ∷ new.rows }) × (inner.whole ≡ whole) × (closed ≡ false)
@@ -111,7 +113,7 @@ pub record Knows (ended is_closed : Bool) (inner : IteratorState) : Type 0 where
   pub closed : is_closed ≡ ended
   pub begun : ended ≡ true → inner.initialised ≡ true
 
-abbrev pub KnowsUnlessFailed : Option SlateDBError → Bool → Bool → IteratorState → Type 0
+abbrev pub KnowsUnlessFailed : (failure : Option SlateDBError) (ended is_closed : Bool) (inner : IteratorState) → Type 0
 KnowsUnlessFailed (Some e) ended is_closed inner = ⊤
 KnowsUnlessFailed None ended is_closed inner = Knows ended is_closed inner
 

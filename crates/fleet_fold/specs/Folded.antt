@@ -76,7 +76,8 @@ all_answers (a ∷ others) = one_more a (all_answers others)
 
 -- The batches' results, newest first, folded over the base's value or, if there is none, without an existing
 -- value. If the base has a sequence above that of `first`, the answer is `InvalidSequenceOrder`.
-abbrev pub over_base : Operator → Row → List Row → Result (List (List ℕ)) SlateDBError → Result (List ℕ) SlateDBError
+abbrev pub over_base : (merge : Operator) (first : Row) (base : List Row)
+    (results : Result (List (List ℕ)) SlateDBError) → Result (List ℕ) SlateDBError
 over_base merge first base (Err e) = Err e
 over_base merge first base (Ok results) = in_order first.seq (last_above first.seq base)
     (answer_of (fold_bytes merge first.key (base_bytes (group_base base)) (reverse results)))
@@ -100,7 +101,7 @@ group_answer merge g = over_base merge g.0 (base_among g.1)
     (all_answers (map (batch_answer merge g.0) (batches batch_len (g.0 ∷ operands_in g.1))))
 
 -- The lesser of two stamps. If one is missing, it is the other one.
-abbrev pub lesser_stamp : Option ℤ → Option ℤ → Option ℤ
+abbrev pub lesser_stamp : (a b : Option ℤ) → Option ℤ
 lesser_stamp None b = b
 lesser_stamp (Some a) None = Some a
 lesser_stamp (Some a) (Some b) = if int_le b a then Some b else Some a
@@ -129,7 +130,8 @@ merged_group merge g = row_of_answer g (group_answer merge g)
 
 -- What the rows become, group after group. The first `taken` rows were taken by an earlier group and are
 -- skipped.
-abbrev pub folded_after : Operator → GroupRule → ℕ → List Row → List (Result Row SlateDBError)
+abbrev pub folded_after : (merge : Operator) (rule : GroupRule) (taken : ℕ) (rows : List Row)
+    → List (Result Row SlateDBError)
 folded_after merge rule taken [] = []
 folded_after merge rule (suc taken) (r ∷ rows) = folded_after merge rule taken rows
 folded_after merge rule zero (r ∷ rows) =

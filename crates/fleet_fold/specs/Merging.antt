@@ -33,7 +33,8 @@ abbrev pub RisesIfRefused : Operator → GroupRule → List Row → Type 0
 RisesIfRefused merge rule rows = (folded_groups merge rule rows).refusal ≢ None → AreRising rows
 
 -- What holds of the inner iterator until a call fails the outer one.
-abbrev pub ReadsGroups : Operator → GroupRule → Option SlateDBError → Option RowEntry → IteratorState → Type 0
+abbrev pub ReadsGroups : (merge : Operator) (rule : GroupRule) (failure : Option SlateDBError) (ahead : Option RowEntry)
+    (inner : IteratorState) → Type 0
 ReadsGroups merge rule (Some e) ahead inner = ⊤
 ReadsGroups merge rule None ahead inner = (inner.failure ≡ None)
     × ((ahead ≡ None → ⊥) → inner.initialised ≡ true) × RisesIfRefused merge rule (from_ahead ahead inner)
@@ -63,8 +64,8 @@ Sought settings merged state sought i key new =
 
 -- If the inner iterator failed in a call, its error is the error of the call. Otherwise that is the error of
 -- the first group left. It may be `Memory` instead.
-abbrev pub HandsOnOrRefuses : {O T A : Type 0} → (O → List ℕ) → (List ℕ → Operator) → (T → IteratorState)
-    → MergeOperatorIterator O T → MergeOperatorIterator O T → Result A SlateDBError → Type 0
+abbrev pub HandsOnOrRefuses : {O T A : Type 0} → (settings : O → List ℕ) (merged : List ℕ → Operator)
+    (state : T → IteratorState) (old new : MergeOperatorIterator O T) (answer : Result A SlateDBError) → Type 0
 HandsOnOrRefuses settings merged state old new (Ok a) = ⊤
 HandsOnOrRefuses settings merged state old new (Err e) =
     old.failure ≡ None → (state old.delegate).initialised ≡ true

@@ -39,7 +39,7 @@ HaveOneKey [] = ⊤
 HaveOneKey (r ∷ rows) = AllByRecursion (λ q. same_key r q ≡ true) rows
 
 -- The later rows begin with another key, or there are none. If there are no rows before them, there are none.
-abbrev pub AreEndedBy : List Row → List Row → Type 0
+abbrev pub AreEndedBy : (rows later : List Row) → Type 0
 AreEndedBy [] later = later ≡ []
 AreEndedBy (r ∷ rows) [] = ⊤
 AreEndedBy (r ∷ rows) (q ∷ later) = same_key r q ≡ false
@@ -137,7 +137,8 @@ pub record RefusesBeginning (buffer : List RowEntry) (ahead : Option RowEntry) (
   pub stays : later ≡ ahead
   pub nexts : Nexts old new (Err e)
 
-abbrev pub Knows : Option SlateDBError → List RowEntry → Option RowEntry → IteratorState → Type 0
+abbrev pub Knows : (failure : Option SlateDBError) (buffer : List RowEntry) (ahead : Option RowEntry)
+    (inner : IteratorState) → Type 0
 Knows (Some e) buffer ahead inner = ⊤
 Knows None buffer ahead inner = ReadsOn buffer ahead inner
 

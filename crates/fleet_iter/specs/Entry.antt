@@ -11,7 +11,7 @@ use Rattle.fleet_iter.specs.declared.entry.MergeIteratorHeapEntry.{MergeIterator
 use Rattle.fleet_iter.specs.Merge.{keys_in}
 
 -- The order of iteration orders: Ascending is less than Descending.
-abbrev pub order_cmp : IterationOrder → IterationOrder → Ordering
+abbrev pub order_cmp : (a b : IterationOrder) → Ordering
 order_cmp Ascending Ascending = Equal
 order_cmp Ascending Descending = Less
 order_cmp Descending Ascending = Greater

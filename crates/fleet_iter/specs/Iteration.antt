@@ -58,7 +58,7 @@ IsHandedOn inner e = e ≢ Memory → inner.failure ≡ Some e
 
 -- A call of an iterator that has not failed hands on the error of its inner iterator, unless the error is
 -- `Memory` or `IteratorNotInitialized`.
-abbrev pub HandsOn : {A : Type 0} → IteratorState → IteratorState → Result A SlateDBError → Type 0
+abbrev pub HandsOn : {A : Type 0} → (old inner : IteratorState) (result : Result A SlateDBError) → Type 0
 HandsOn old inner (Ok a) = ⊤
 HandsOn old inner (Err e) = old.failure ≡ None → e ≢ IteratorNotInitialized → IsHandedOn inner e
 
@@ -72,7 +72,7 @@ pub record StaysUninitialised (A : Type 0) (old new : IteratorState) (result : R
   pub answer : result ≡ Err IteratorNotInitialized
   pub same : new ≡ old
 
-abbrev pub InitAnswers : IteratorState → IteratorState → Result (Unit {0}) SlateDBError → Type 0
+abbrev pub InitAnswers : (old new : IteratorState) (result : Result (Unit {0}) SlateDBError) → Type 0
 InitAnswers old new (Ok done) = new ≡ record old { initialised = true }
 InitAnswers old new (Err e) = Fails old.whole new e
 
@@ -86,7 +86,7 @@ pub record Ends (old new : IteratorState) : Type 0 where
   pub whole : old.whole ≡ true
   pub same : new ≡ old
 
-abbrev pub NextAnswers : IteratorState → IteratorState → Result (Option RowEntry) SlateDBError → Type 0
+abbrev pub NextAnswers : (old new : IteratorState) (result : Result (Option RowEntry) SlateDBError) → Type 0
 NextAnswers old new (Ok None) = Ends old new
 NextAnswers old new (Ok (Some row)) = old ≡ record new { rows = row_of row ∷ new.rows }
 NextAnswers old new (Err e) = NextFails old new e
@@ -134,11 +134,11 @@ pub record Passes (old new : IteratorState) : Type 0 where
 
 -- What a seek leaves. If the flag is true, it drops exactly the rows below the key. If the flag is false, the
 -- iterator is not exact, and of the rows left it is only known that they rise.
-abbrev pub Moves : Bool → List ℕ → IteratorState → IteratorState → Type 0
+abbrev pub Moves : (exact : Bool) (key : List ℕ) (old new : IteratorState) → Type 0
 Moves true key old new = new ≡ record old { rows = from_key key old.rows }
 Moves false key old new = Passes old new
 
-abbrev pub SeekAnswers : List ℕ → IteratorState → IteratorState → Result (Unit {0}) SlateDBError → Type 0
+abbrev pub SeekAnswers : (key : List ℕ) (old new : IteratorState) (result : Result (Unit {0}) SlateDBError) → Type 0
 SeekAnswers key old new (Ok done) = Moves (is_exact old) key old new
 SeekAnswers key old new (Err e) = Fails (is_exact old) new e
 

@@ -19,7 +19,7 @@ use Rattle.fleet_iter.specs.declared.iterator.IterationOrder.{IterationOrder}
 use Rattle.fleet_iter.specs.declared.iterator.IterationOrder.TheVariants.{Ascending, Descending}
 
 -- Keys are compared in an iteration order.
-abbrev pub keys_in : IterationOrder → List ℕ → List ℕ → Ordering
+abbrev pub keys_in : (order : IterationOrder) (a b : List ℕ) → Ordering
 keys_in Ascending a b = key_cmp a b
 keys_in Descending a b = key_cmp b a
 
@@ -32,12 +32,12 @@ abbrev pub goes_first : (order : IterationOrder) (a b : Row) → Bool
 goes_first order a b = not (is_gt (cmp_in order a b))
 
 -- The merge of a list with a row and the rows after it. The function merges the rows after it with a list.
-abbrev pub merge_into : IterationOrder → Row → (List Row → List Row) → List Row → List Row
+abbrev pub merge_into : (order : IterationOrder) (r : Row) (rest : List Row → List Row) (rows : List Row) → List Row
 merge_into order r rest [] = r ∷ rest []
 merge_into order r rest (q ∷ rows) =
     if goes_first order r q then r ∷ rest (q ∷ rows) else q ∷ merge_into order r rest rows
 
-abbrev pub merge_two : IterationOrder → List Row → List Row → List Row
+abbrev pub merge_two : (order : IterationOrder) (rows others : List Row) → List Row
 merge_two order [] others = others
 merge_two order (r ∷ rows) others = merge_into order r (merge_two order rows) others
 
@@ -153,7 +153,7 @@ is_known Descending exact = true
 
 -- A step of a source to its first row at or after a key. If the flag is false, it is only known that the
 -- source's rows rise.
-abbrev pub NextGivesFrom : Bool → List ℕ → IteratorState → IteratorState → Option RowEntry → Type 0
+abbrev pub NextGivesFrom : (known : Bool) (key : List ℕ) (s t : IteratorState) (h : Option RowEntry) → Type 0
 NextGivesFrom true key s t h = NextGives (record s { rows = from_key key s.rows }) t h
 NextGivesFrom false key s t h = IsTaken h t × AreRising (rows_of (option_to_list h) ++ t.rows)
 
@@ -214,14 +214,15 @@ pub record Skips (order : IterationOrder) (test : Row → Bool) (hs : List (Opti
   pub same_manner : manners ss' ≡ manners ss
 
 -- A merge drops its rows below a key. If the flag is false, it is only known that the rows left rise.
-abbrev pub SkipsTo : Bool → IterationOrder → List ℕ → List (Option RowEntry) → List IteratorState
-    → List (Option RowEntry) → List IteratorState → Type 0
+abbrev pub SkipsTo : (known : Bool) (order : IterationOrder) (key : List ℕ) (hs : List (Option RowEntry))
+    (ss : List IteratorState) (hs' : List (Option RowEntry)) (ss' : List IteratorState) → Type 0
 SkipsTo true order key hs ss hs' ss' = Skips order (is_below key) hs ss hs' ss'
 SkipsTo false order key hs ss hs' ss' = AllTaken hs' ss' × AreRising (merged_left order hs' ss')
 
 -- How a merge's failure, its `initialised` flag, its heads and its sources fit together. After a failure
 -- nothing is known.
-abbrev pub Fits : Option SlateDBError → Bool → List (Option RowEntry) → List IteratorState → Type 0
+abbrev pub Fits : (failure : Option SlateDBError) (initialised : Bool) (hs : List (Option RowEntry))
+    (ss : List IteratorState) → Type 0
 Fits (Some e) initialised hs ss = ⊤
 Fits None true hs ss = AllTaken hs ss
 Fits None false hs ss = (hs ≡ []) × NoneFailed ss

@@ -35,7 +35,7 @@ pub record Shows (row : RowEntry) (old new : IteratorState) : Type 0 where
   pub first : old.rows ≡ row_of row ∷ after_first old.rows
   pub same : new ≡ old
 
-abbrev pub PeekAnswers : IteratorState → IteratorState → Result (Option RowEntry) SlateDBError → Type 0
+abbrev pub PeekAnswers : (old new : IteratorState) (result : Result (Option RowEntry) SlateDBError) → Type 0
 PeekAnswers old new (Ok None) = Ends old new
 PeekAnswers old new (Ok (Some row)) = Shows row old new
 PeekAnswers old new (Err e) = NextFails old new e

@@ -19,7 +19,7 @@ rows_after (Some cursor) rows = without_first (is_written cursor) (from_key curs
 
 -- What an iterator has left after a cursor. If the flag is false, the iterator is not exact, and it is only
 -- known that the rows left rise.
-abbrev pub Resumes : Bool → Option Cursor → IteratorState → IteratorState → Type 0
+abbrev pub Resumes : (exact : Bool) (cursor : Option Cursor) (old new : IteratorState) → Type 0
 Resumes true cursor old new = new ≡ record old { rows = rows_after cursor old.rows }
 Resumes false None old new = new ≡ old
 Resumes false (Some cursor) old new = Passes old new
@@ -30,7 +30,8 @@ pub record SoughtAfter (sought : List ℕ → IteratorState → Type 0) (cursor 
   pub stated : sought cursor.0 left
   pub rows : new ≡ record left { rows = without_first (is_written cursor) left.rows }
 
-abbrev pub ResumesBy : (List ℕ → IteratorState → Type 0) → Option Cursor → IteratorState → IteratorState → Type 0
+abbrev pub ResumesBy : (sought : List ℕ → IteratorState → Type 0) (cursor : Option Cursor) (old new : IteratorState)
+    → Type 0
 ResumesBy sought None old new = new ≡ old
 ResumesBy sought (Some cursor) old new = SoughtAfter sought cursor new
 

@@ -78,7 +78,7 @@ pub record IsContinued (earlier later : ContextParts) : Type 0 where
   pub ranges : AllZip IsExtended earlier.ranges later.ranges
 
 -- If there was a context and a new one is given, the new one extends it, as the model says.
-abbrev pub FollowsContext : Option ContextParts → Option ContextParts → Type 0
+abbrev pub FollowsContext : (earlier later : Option ContextParts) → Type 0
 FollowsContext earlier None = ⊤
 FollowsContext earlier (Some later) =
     IfSome (option_map context_of earlier) (λ context. ContextExtends context (context_of later))

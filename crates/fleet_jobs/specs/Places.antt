@@ -39,7 +39,7 @@ may_drop nodes sources = list_all (names_contain nodes) sources && names_older s
 
 -- True if a job with these sources and this destination may be finished in a tree with these nodes. A job without a
 -- destination is a drain.
-abbrev pub stand_among : List NodeName → List NodeName → Option ℕ → Bool
+abbrev pub stand_among : (nodes sources : List NodeName) (destination : Option ℕ) → Bool
 stand_among nodes sources None = may_drop nodes sources
 stand_among nodes sources (Some run) = may_merge nodes sources run
 

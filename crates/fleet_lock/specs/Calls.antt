@@ -60,7 +60,8 @@ Alone merge line party Asks old new =
     × Asks (lone_view merge line party lent (store_of old)) (lone_view merge line party lent (store_of new))
 
 -- The call may be made by this caller.
-abbrev pub MayAlone : Operator → (line : ℕ) → Party → (StoreView → Type 0) → HeldValue → Type 0
+abbrev pub MayAlone : (merge : Operator) → (line : ℕ) → (party : Party) (Fits : StoreView → Type 0) (old : HeldValue)
+    → Type 0
 MayAlone merge line party Fits old = (lent : ℕ) → Fits (lone_view merge line party lent (store_of old))
 
 -- The value that a view finds: what came since the view looked last is lawful calls of others, and the store meets

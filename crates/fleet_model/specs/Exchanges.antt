@@ -127,7 +127,7 @@ stands_or_lost _ = Stands
 -- The store after a struck call. If the flag is true, the call is performed and stands, except that a put
 -- in conflict is lost. If the flag is false, the call is lost. In both cases the history has an entry for
 -- the call.
-abbrev pub struck_by : Bool → ℕ → Party → Exchange → Store → Store
+abbrev pub struck_by : (stands : Bool) (line : ℕ) (party : Party) (x : Exchange) (store : Store) → Store
 struck_by true line party x store =
     with_entry line party (event_of x store) (stands_or_lost (answer_of x store)) (after_exchange x store)
 struck_by false line party x store = with_entry line party (event_of x store) Lost store

@@ -72,7 +72,7 @@ is_finished Completed = true
 is_finished Failed = true
 
 -- True if both statuses are equal.
-abbrev pub status_eq : Status → Status → Bool
+abbrev pub status_eq : (status other : Status) → Bool
 status_eq Submitted Submitted = true
 status_eq Scheduled Scheduled = true
 status_eq Running Running = true
@@ -159,7 +159,7 @@ put_job new jobs = insert_before {A = Job} (λ a b. nat_lt a.id b.id) new jobs
 
 -- True if more than the timeout, in milliseconds, has passed since the lease's last heartbeat, or if there
 -- is no lease.
-abbrev pub is_overdue : ℕ → ℕ → Option Lease → Bool
+abbrev pub is_overdue : (timeout moment : ℕ) (lease : Option Lease) → Bool
 is_overdue timeout moment None = true
 is_overdue timeout moment (Some lease) = nat_lt timeout (moment - lease.heartbeat)
 

@@ -28,7 +28,7 @@ pub data NodeName : Type 0 where
   Run : (id : ℕ) → NodeName
 
 -- True if both names are equal.
-abbrev pub name_eq : NodeName → NodeName → Bool
+abbrev pub name_eq : (name other : NodeName) → Bool
 name_eq (L0 a) (L0 b) = a == b
 name_eq (L0 a) (Run b) = false
 name_eq (Run a) (L0 b) = false

@@ -15,19 +15,19 @@ abbrev pub all_run_ids : Trees → List ℕ
 all_run_ids trees = flat_map (λ s. run_ids (names s.tree)) trees
 
 -- The names that follow the sources, if the list begins with the sources. Otherwise it is None.
-abbrev pub after_front : List NodeName → List NodeName → Option (List NodeName)
+abbrev pub after_front : (sources nodes : List NodeName) → Option (List NodeName)
 after_front [] rest = Some rest
 after_front (x ∷ xs) [] = None
 after_front (x ∷ xs) (y ∷ ys) = if name_eq x y then after_front xs ys else None
 
 -- The first list if there is one, and otherwise the second.
-abbrev pub or_later : Option (List NodeName) → Option (List NodeName) → Option (List NodeName)
+abbrev pub or_later : (first later : Option (List NodeName)) → Option (List NodeName)
 or_later None later = later
 or_later (Some rest) later = Some rest
 
 -- The nodes that are older than the sources, if the sources are in the tree one after the other. Otherwise
 -- it is None.
-abbrev pub older_nodes : List NodeName → List NodeName → Option (List NodeName)
+abbrev pub older_nodes : (sources nodes : List NodeName) → Option (List NodeName)
 older_nodes sources [] = after_front sources []
 older_nodes sources (y ∷ ys) = or_later (after_front sources (y ∷ ys)) (older_nodes sources ys)
 
@@ -48,7 +48,7 @@ abbrev pub is_whole_stretch : Tree → List NodeName → Bool
 is_whole_stretch tree sources = reaches_oldest sources (older_nodes sources (names tree))
 
 -- True if the id is the lowest source run or, if no run is a source, is above all these runs.
-abbrev pub is_lowest_or_above : ℕ → List ℕ → List ℕ → Bool
+abbrev pub is_lowest_or_above : (id : ℕ) (sources runs : List ℕ) → Bool
 is_lowest_or_above id [] runs = list_all (λ run. nat_lt run id) runs
 is_lowest_or_above id (source ∷ sources) runs =
     contains (source ∷ sources) id && list_all (λ run. nat_le id run) (source ∷ sources)

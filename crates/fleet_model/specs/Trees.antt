@@ -62,7 +62,7 @@ to_run change (Some id) tree = change id tree
 -- The tree of a job's segment after a step, given the job's spec and the tables that it recorded. A join
 -- replaces the sources by a run of the recorded tables, and a move replaces them by a run of their own
 -- tables. A drain drops the sources.
-abbrev pub stepped_tree : Tables → Step → JobSpec → List ℕ → Tree → Tree
+abbrev pub stepped_tree : (tables : Tables) (step : Step) (spec : JobSpec) (outputs : List ℕ) (tree : Tree) → Tree
 stepped_tree tables (Join job) spec outputs tree =
     to_run (λ id. with_run_for spec.sources id outputs) spec.destination tree
 stepped_tree tables (Move job) spec outputs tree =
@@ -119,7 +119,7 @@ abbrev pub empty_segment : List ℕ → Segment
 empty_segment prefix = record { prefix = prefix; tree = []; last_seq = None; watermark = None }
 
 -- The trees after a flush into the segment with this prefix. The segment is made if there is none.
-abbrev pub flushed_trees : List ℕ → ℕ → List Row → Trees → Trees
+abbrev pub flushed_trees : (prefix : List ℕ) (name : ℕ) (rows : List Row) (trees : Trees) → Trees
 flushed_trees prefix name rows [] = flushed_on name rows (empty_segment prefix) ∷ []
 flushed_trees prefix name rows (s ∷ trees) =
     if bytes_eq prefix s.prefix then flushed_on name rows s ∷ trees
@@ -133,21 +133,21 @@ job_of (Move job) = job
 job_of (Drain job) = job
 
 -- The trees after the steps of a commit, taken in order, given each job's spec and recorded tables.
-abbrev pub stepped_all : Tables → (ℕ → JobSpec × List ℕ) → List Step → Trees → Trees
+abbrev pub stepped_all : (tables : Tables) (jobs : ℕ → JobSpec × List ℕ) (steps : List Step) (trees : Trees) → Trees
 stepped_all tables jobs [] trees = trees
 stepped_all tables jobs (step ∷ steps) trees =
     stepped_all tables jobs steps (stepped_in tables step (jobs (job_of step)).0 (jobs (job_of step)).1 trees)
 
 -- The horizon after a step. A join raises it to the cut that its job kept, or to the stored floor if the
 -- job kept none, unless it is higher already. A move and a drain leave it as it is.
-abbrev pub horizon_after : ℕ → Step → Option ℕ → ℕ → ℕ
+abbrev pub horizon_after : (floor : ℕ) (step : Step) (kept_cut : Option ℕ) (horizon : ℕ) → ℕ
 horizon_after floor (Join job) None horizon = max horizon floor
 horizon_after floor (Join job) (Some cut) horizon = max horizon cut
 horizon_after floor (Move job) kept_cut horizon = horizon
 horizon_after floor (Drain job) kept_cut horizon = horizon
 
 -- The horizon after the steps of a commit, taken in order, given the cut that each job kept.
-abbrev pub horizon_after_all : ℕ → (ℕ → Option ℕ) → List Step → ℕ → ℕ
+abbrev pub horizon_after_all : (floor : ℕ) (cuts : ℕ → Option ℕ) (steps : List Step) (horizon : ℕ) → ℕ
 horizon_after_all floor cuts [] horizon = horizon
 horizon_after_all floor cuts (step ∷ steps) horizon =
     horizon_after_all floor cuts steps (horizon_after floor step (cuts (job_of step)) horizon)

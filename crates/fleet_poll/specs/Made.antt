@@ -68,13 +68,15 @@ abbrev pub joined_run : JobParts → Option SortedRun
 joined_run job = run_of_tables (destination_of job.spec) (written_tables job)
 
 -- Which flushes went into each run after step 2 of a poll for a job, given the rule that failed if one did.
-abbrev pub flushes_committed : Option ℕ → JobParts → ManifestCore → RunFlushes → RunFlushes
+abbrev pub flushes_committed : (rule : Option ℕ) (job : JobParts) (core : ManifestCore) (flushes : RunFlushes)
+    → RunFlushes
 flushes_committed (Some rule) job core flushes = flushes
 flushes_committed None job core flushes = flushes_after job.spec core flushes
 
 -- Which flushes went into each run after step 4 of a poll for a job, given the rule that failed if one did, and whether
 -- moves are allowed.
-abbrev pub flushes_opened : Option ℕ → Bool → JobParts → ManifestCore → RunFlushes → RunFlushes
+abbrev pub flushes_opened : (rule : Option ℕ) (moves : Bool) (job : JobParts) (core : ManifestCore)
+    (flushes : RunFlushes) → RunFlushes
 flushes_opened (Some rule) moves job core flushes = flushes
 flushes_opened None moves job core flushes =
     if moves && is_some (run_if_moved (Some job) core) then flushes_after job.spec core flushes else flushes

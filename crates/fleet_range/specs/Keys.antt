@@ -43,7 +43,7 @@ prefix_ends prefix = (prefix_start prefix, end_before (successor prefix))
 
 -- A bound on what follows the prefix, as a bound on the whole key. Unbounded becomes `whole`, the bound that
 -- the prefix's range has on this side.
-abbrev pub placed_range : List ℕ → Bound (List ℕ) → Bound (List ℕ) → Bound (List ℕ)
+abbrev pub placed_range : (prefix : List ℕ) (whole bound : Bound (List ℕ)) → Bound (List ℕ)
 placed_range prefix whole Unbounded = whole
 placed_range prefix whole (Included suffix) = Included (prefix ++ suffix)
 placed_range prefix whole (Excluded suffix) = Excluded (prefix ++ suffix)
@@ -57,7 +57,7 @@ is_excluded (Excluded key) = true
 is_excluded (Included key) = false
 is_excluded Unbounded = false
 
-abbrev pub point_between : Bound (List ℕ) → Bound (List ℕ) → Option (List ℕ)
+abbrev pub point_between : (start end : Bound (List ℕ)) → Option (List ℕ)
 point_between (Included x) (Included y) = if bytes_eq x y then Some x else None
 point_between (Included x) (Excluded y) = None
 point_between (Included x) Unbounded = None

@@ -32,7 +32,7 @@ module _ {K : Type 0} (R : K → K → Ordering) where
 
   -- Whether a start and an end leave room. Only the bounds are compared: two Excluded bounds at rising keys
   -- leave room even if no key lies between them.
-  abbrev pub leaves_room : Bound K → Bound K → Bool
+  abbrev pub leaves_room : (start end : Bound K) → Bool
   leaves_room Unbounded end = true
   leaves_room (Included x) Unbounded = true
   leaves_room (Excluded x) Unbounded = true
@@ -57,7 +57,7 @@ module _ {K : Type 0} (R : K → K → Ordering) where
 
   -- Whether a range with this start begins exactly where a range with this end stops. Both bounds are then at
   -- one key, and exactly one of them is Included.
-  abbrev pub touches : Bound K → Bound K → Bool
+  abbrev pub touches : (start end : Bound K) → Bool
   touches (Excluded x) (Included y) = is_eq (R x y)
   touches (Included x) (Excluded y) = is_eq (R x y)
   touches (Included x) (Included y) = false

@@ -13,7 +13,7 @@ use Rattle.std.specs.declared.ops.Bound.TheVariants.{Included, Excluded, Unbound
 
 module _ {K : Type 0} (R : K → K → Ordering) where
   -- The order of starts. Unbounded is the least start, and at one key Included is less than Excluded.
-  abbrev pub start_cmp : Bound K → Bound K → Ordering
+  abbrev pub start_cmp : (a b : Bound K) → Ordering
   start_cmp Unbounded Unbounded = Equal
   start_cmp Unbounded (Included y) = Less
   start_cmp Unbounded (Excluded y) = Less
@@ -25,7 +25,7 @@ module _ {K : Type 0} (R : K → K → Ordering) where
   start_cmp (Excluded x) (Excluded y) = R x y
 
   -- The order of ends. Unbounded is the greatest end, and at one key Included is greater than Excluded.
-  abbrev pub end_cmp : Bound K → Bound K → Ordering
+  abbrev pub end_cmp : (a b : Bound K) → Ordering
   end_cmp Unbounded Unbounded = Equal
   end_cmp Unbounded (Included y) = Greater
   end_cmp Unbounded (Excluded y) = Greater
@@ -42,10 +42,10 @@ abbrev pub Cut : Type 0 → Type 0
 Cut K = ℕ × Option (K × ℕ)
 
 -- The order of spots at keys: by key, and at one key by side, where 0 is below the key and 1 is above it.
-abbrev pub spot_cmp : {K : Type 0} → (K → K → Ordering) → K × ℕ → K × ℕ → Ordering
+abbrev pub spot_cmp : {K : Type 0} → (R : K → K → Ordering) (a b : K × ℕ) → Ordering
 spot_cmp R = then_cmp (on (λ p. p.0) R) (on (λ p. p.1) nat_cmp)
 
-abbrev pub cut_cmp : {K : Type 0} → (K → K → Ordering) → Cut K → Cut K → Ordering
+abbrev pub cut_cmp : {K : Type 0} → (R : K → K → Ordering) (a b : Cut K) → Ordering
 cut_cmp R = then_cmp (on (λ c. c.0) nat_cmp) (on (λ c. c.1) (option_cmp (spot_cmp R)))
 
 abbrev pub below : {K : Type 0} → K → Cut K
@@ -108,7 +108,7 @@ pub end_total : {K : Type 0} {R : K → K → Ordering} → IsTotalOrder R → I
 end_total {K} {R} o = subst IsTotalOrder (λ i a b. end_cuts R a b i) (on_total end_cut (cut_total o))
 
 -- Two bounds are equal if they are of one kind and their keys, where there are any, are equal.
-abbrev pub bound_eq : {K : Type 0} → (K → K → Bool) → Bound K → Bound K → Bool
+abbrev pub bound_eq : {K : Type 0} → (E : K → K → Bool) (a b : Bound K) → Bool
 bound_eq E Unbounded Unbounded = true
 bound_eq E (Included x) (Included y) = E x y
 bound_eq E (Excluded x) (Excluded y) = E x y

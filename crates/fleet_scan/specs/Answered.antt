@@ -19,7 +19,7 @@ pub record Scanning : Type 0 where
 
 -- A call takes the first answer left. None means that no answer is left, and only running out of memory fails
 -- the scan.
-abbrev pub Takes : Scanning → Scanning → Result (Option KeyAnswer) SlateDBError → Type 0
+abbrev pub Takes : (old new : Scanning) (result : Result (Option KeyAnswer) SlateDBError) → Type 0
 Takes old new (Ok None) = (old.left ≡ []) × (new ≡ old)
 Takes old new (Ok (Some answer)) = old ≡ record new { left = pair_of answer ∷ new.left }
 Takes old new (Err e) = (e ≡ Memory) × (new.failed ≡ true)

@@ -47,7 +47,8 @@ Leads inputs number coordinator worker place old to new = (answer : List ℕ) (l
     → Ends inputs number coordinator worker place old answer last
 
 -- Some steps bring a settle line from the one place to the other. If there is a reply, they end the line instead.
-abbrev pub Goes : Inputs → (number coordinator worker : ℕ) → Place → State → Place → State → Option (List ℕ) → Type 0
+abbrev pub Goes : (inputs : Inputs) → (number coordinator worker : ℕ) → (place : Place) (old : State) (to : Place)
+    (new : State) (answer : Option (List ℕ)) → Type 0
 Goes inputs number coordinator worker place old to new None = Leads inputs number coordinator worker place old to new
 Goes inputs number coordinator worker place old to new (Some answer) =
     Ends inputs number coordinator worker place old answer new

@@ -19,6 +19,6 @@ pub record DrewUntil (moment count : ℕ) (old new : StoreView) (error : SlateDB
   pub stopped : ((length ids < count) × DrawsJobId mid new moment (Err error)) ⊎ ((error ≡ Memory) × (new ≡ mid))
 
 -- So many ids were drawn, or fewer.
-abbrev pub DrawsJobs : ℕ → ℕ → (old new : StoreView) → Result (List ℕ) SlateDBError → Type 0
+abbrev pub DrawsJobs : (moment count : ℕ) → (old new : StoreView) → (result : Result (List ℕ) SlateDBError) → Type 0
 DrawsJobs moment count old new (Ok ids) = (length ids ≡ count) × Drew moment ids old new
 DrawsJobs moment count old new (Err error) = DrewUntil moment count old new error

@@ -103,8 +103,8 @@ pub record IsOutcome {A : Type 0} (x : Exchange) (written : List ℕ) (Gives : A
   pub fits : Fits Gives Refuses made.1
 
 -- The call was made, or memory ran out and nothing changed.
-abbrev pub Makes : {A : Type 0} → Exchange → (written : List ℕ) → (A → Type 0) → (ℕ → Type 0)
-    → (old new : StoreParts) → Result (Strike × Result A SlateDBError) AllocError → Type 0
+abbrev pub Makes : {A : Type 0} → (x : Exchange) → (written : List ℕ) → (Gives : A → Type 0) (Refuses : ℕ → Type 0)
+    → (old new : StoreParts) → (result : Result (Strike × Result A SlateDBError) AllocError) → Type 0
 Makes x written Gives Refuses old new (Err refusal) = new ≡ old
 Makes x written Gives Refuses old new (Ok made) = IsOutcome x written Gives Refuses old new made
 

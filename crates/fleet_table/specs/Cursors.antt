@@ -63,6 +63,6 @@ abbrev pub rows_between : (start end : ℕ) (rows : List Row) → List Row
 rows_between start end rows = take (end - start) (drop start rows)
 
 -- The first of the old rows was taken, if there is one.
-abbrev pub Takes : List Row → List Row → Option RowEntry → Type 0
+abbrev pub Takes : (old new : List Row) (row : Option RowEntry) → Type 0
 Takes old new None = (old ≡ []) × (new ≡ [])
 Takes old new (Some row) = old ≡ row_of row ∷ new

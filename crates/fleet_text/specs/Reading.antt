@@ -8,13 +8,14 @@ use Rattle.script_model.specs.Script.{Line, words}
 
 -- The result of reading a text: a value that fits and is spelt as this text, or None if no value
 -- that fits is spelt so.
-abbrev pub Reads : {A B : Type 0} → (A → B) → (A → Type 0) → B → Option A → Type 0
+abbrev pub Reads : {A B : Type 0} → (spelling : A → B) (Fits : A → Type 0) (text : B) (found : Option A) → Type 0
 Reads spelling Fits text (Some x) = Fits x × (text ≡ spelling x)
 Reads spelling Fits text None = (x : _) → Fits x → text ≢ spelling x
 
 -- The result of reading a text as a value of the program. Its view in the model fits and is spelt
 -- as this text. The result is None if no model value that fits is spelt so.
-abbrev pub ReadsAs : {A M B : Type 0} → (A → M) → (M → B) → (M → Type 0) → B → Option A → Type 0
+abbrev pub ReadsAs : {A M B : Type 0} → (view : A → M) (spelling : M → B) (Fits : M → Type 0) (text : B)
+    (found : Option A) → Type 0
 ReadsAs view spelling Fits text (Some x) = Fits (view x) × (text ≡ spelling (view x))
 ReadsAs view spelling Fits text None = (m : _) → Fits m → text ≢ spelling m
 

@@ -38,7 +38,8 @@ flushed_on view seq t = record t { l0 = view ∷ t.l0; last_seq = Some seq }
 
 -- The trees after a flush is put in front of its segment's tree. If the segment is not among them, it is
 -- inserted by rising prefix, with a tree of this flush alone.
-abbrev pub flushed_segments : List ℕ → View → ℕ → List (List ℕ × LsmTreeState) → List (List ℕ × LsmTreeState)
+abbrev pub flushed_segments : (prefix : List ℕ) (view : View) (seq : ℕ) (trees : List (List ℕ × LsmTreeState))
+    → List (List ℕ × LsmTreeState)
 flushed_segments prefix view seq [] = (prefix, flushed_on view seq empty_tree) ∷ []
 flushed_segments prefix view seq (s ∷ trees) =
     if bytes_eq prefix s.0 then (prefix, flushed_on view seq s.1) ∷ trees

@@ -91,7 +91,8 @@ pub record Beats (moment : ℕ) (w : WorkerParts) (got : Option VersionedRecords
       → DescribeTables put.value.jobs store
 
 -- The same, or without a put it reports so at once.
-abbrev pub IsBeatOf : ℕ → WorkerParts → Option VersionedRecords → BeatReport → Option BeatPut → Type 0
+abbrev pub IsBeatOf : (moment : ℕ) (w : WorkerParts) (got : Option VersionedRecords) (report : BeatReport)
+    (put : Option BeatPut) → Type 0
 IsBeatOf moment w got report None =
     (again : ℕ → Course (StepEnd Beaten)) → beat_by moment (live_of w) (option_map records_of got) again
     ≡ Ends (beat_ends_over w (report, got))

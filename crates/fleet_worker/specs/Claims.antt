@@ -46,7 +46,7 @@ put_part a [] = a ∷ []
 put_part a (b ∷ attempts) = if nat_lt a.job b.job then a ∷ b ∷ attempts else b ∷ put_part a attempts
 
 -- Inserts new attempts among the attempts, by their jobs.
-abbrev pub with_parts : List AttemptParts → List AttemptParts → List AttemptParts
+abbrev pub with_parts : (new attempts : List AttemptParts) → List AttemptParts
 with_parts [] attempts = attempts
 with_parts (a ∷ new) attempts = with_parts new (put_part a attempts)
 

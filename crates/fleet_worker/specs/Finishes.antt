@@ -79,8 +79,8 @@ pub record Finishes (moment : ℕ) (w : WorkerParts) (a : AttemptParts) (outputs
       → DescribeTables put.value.jobs store
 
 -- The same, or without a put the worker does not own the job.
-abbrev pub IsFinishOf : (moment : ℕ) → WorkerParts → AttemptParts → Outputs → Option VersionedRecords
-    → Option FinishPut → Type 0
+abbrev pub IsFinishOf : (moment : ℕ) → (w : WorkerParts) (a : AttemptParts) (outputs : Outputs)
+    (got : Option VersionedRecords) (put : Option FinishPut) → Type 0
 IsFinishOf moment w a outputs got None = (again : ℕ → Course (StepEnd FinishedJob))
     → ends_over moment w a outputs got again ≡ Ends NotOwner
 IsFinishOf moment w a outputs got (Some put) = Finishes moment w a outputs got put

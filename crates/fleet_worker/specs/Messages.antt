@@ -59,7 +59,8 @@ pub record ReturnsOne (w : WorkerParts) (a : AttemptParts) (got : Option Version
   pub described : (store : Store) → DescribeTables (jobs_or_none got) store → DescribeTables put.value.jobs store
 
 -- The same, or without a put the attempt is not live.
-abbrev pub IsReturnOf : WorkerParts → AttemptParts → Option VersionedRecords → Option ReleasePut → Type 0
+abbrev pub IsReturnOf : (w : WorkerParts) (a : AttemptParts) (got : Option VersionedRecords) (put : Option ReleasePut)
+    → Type 0
 IsReturnOf w a got None = (again : ℕ → Course (StepEnd (List Attempt)))
     → release_by (live_of w) (attempt_of a ∷ []) (option_map records_of got)
     (is_gone (live_of w) (attempt_of a)) again ≡ Ends (gone_ends w a tt)

@@ -112,7 +112,8 @@ module _ (moment : ℕ) (w : WorkerParts) (place rows : ℕ) (old new : StoreVie
 
   -- A fold refuses in what is left of the range, and this is the operator's message. If there is no message, no fold
   -- refuses in the rows that are written, or the output came no further than the gets.
-  abbrev pub IsReason : {A : Type 0} → AttemptParts → Part → Result A SlateDBError → Option (List ℕ) → Type 0
+  abbrev pub IsReason : {A : Type 0} → (a : AttemptParts) (part : Part) (result : Result A SlateDBError)
+      (message : Option (List ℕ)) → Type 0
   IsReason a part result None = WritesEnough a part ⊎ EndsInGets a part old new result
   IsReason a part result (Some message) = RefusesNext old.who.merge old.world.store.tables (settings_in a.ctx)
       a.tables part rows (MergeOperator (Callback message))

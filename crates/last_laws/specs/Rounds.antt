@@ -14,7 +14,7 @@ pub record WentWell (inputs : Inputs) (number : ℕ) (line : Line) (old : State)
   pub rest : Rest after
 
 -- The worker finishes these jobs in order, and none of these steps is refused.
-abbrev pub FinishedAll : Inputs → ℕ → ℕ → List ℕ → (old new : State) → Type 0
+abbrev pub FinishedAll : (inputs : Inputs) (number worker : ℕ) (jobs : List ℕ) → (old new : State) → Type 0
 FinishedAll inputs number worker [] old new = new ≡ old
 FinishedAll inputs number worker (job ∷ jobs) old new =
     WentWell inputs number (FinishJob worker job) old (λ after. FinishedAll inputs number worker jobs after new)

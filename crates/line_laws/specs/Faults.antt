@@ -11,13 +11,13 @@ use Rattle.line_laws.specs.Lines.PollRuns.{Answered, entry_of}
 -- ---- a course that nobody disturbs and no fault strikes
 
 -- Its calls, in order, each with its answer.
-abbrev pub calls_made : {A : Type 0} → ℕ → Party → Course A → Store → List Answered
+abbrev pub calls_made : {A : Type 0} → (line : ℕ) (party : Party) (course : Course A) (store : Store) → List Answered
 calls_made line party (Ends answer) store = []
 calls_made line party (Calls x next) store =
     (event_of x store, answer_of x store) ∷ calls_made line party (next store) (after_answered line party x store)
 
 -- What it answers.
-abbrev pub answer_made : {A : Type 0} → ℕ → Party → Course A → Store → A
+abbrev pub answer_made : {A : Type 0} → (line : ℕ) (party : Party) (course : Course A) (store : Store) → A
 answer_made line party (Ends answer) store = answer
 answer_made line party (Calls x next) store = answer_made line party (next store) (after_answered line party x store)
 

@@ -35,7 +35,7 @@ StopsIfRefused replied others answer = is_ok replied ≡ false → (others ≡ [
 
 -- One course of each of these steps, one after the other, took the old state to the new one. The line
 -- whose steps they are has this reply.
-abbrev pub StepsRan : Inputs → State → List Line → List ℕ → State → Type 0
+abbrev pub StepsRan : (inputs : Inputs) (old : State) (steps : List Line) (answer : List ℕ) (new : State) → Type 0
 StepsRan inputs old [] answer new = new ≡ old
 StepsRan inputs old (step ∷ others) answer new =
     (replied : List ℕ) × (mid : State) × CourseRan inputs old step replied mid × StopsIfRefused replied others answer

@@ -18,7 +18,7 @@ flushes_in tree = flat_map (λ node. node.flushes) tree
 
 -- The flushes that a step takes out of the segment with this prefix. A drain takes those of its sources, and
 -- a join and a move take none.
-abbrev pub taken_by : List ℕ → Trees → Step → JobSpec → List ℕ
+abbrev pub taken_by : (prefix : List ℕ) (trees : Trees) (step : Step) (spec : JobSpec) → List ℕ
 taken_by prefix trees (Join job) spec = []
 taken_by prefix trees (Move job) spec = []
 taken_by prefix trees (Drain job) spec =
@@ -29,7 +29,8 @@ abbrev pub without_flushes : (taken flushes : List ℕ) → List ℕ
 without_flushes taken flushes = filter (λ flush. not (contains taken flush)) flushes
 
 -- What the steps of a commit leave of these flushes of a segment, one step after the other.
-abbrev pub left_by : Tables → (ℕ → JobSpec × List ℕ) → List ℕ → List Step → Trees → List ℕ → List ℕ
+abbrev pub left_by : (tables : Tables) (jobs : ℕ → JobSpec × List ℕ) (prefix : List ℕ) (steps : List Step)
+    (trees : Trees) (flushes : List ℕ) → List ℕ
 left_by tables jobs prefix [] trees flushes = flushes
 left_by tables jobs prefix (step ∷ steps) trees flushes =
     left_by tables jobs prefix steps (stepped_in tables step (jobs (job_of step)).0 (jobs (job_of step)).1 trees)
@@ -44,7 +45,7 @@ is_drain_step step = false
 
 -- The flushes that count in a segment after a put of the manifest that took effect, given the trees after
 -- it. A flush counts from its put on. Where a commit drains, those count no more that no node names then.
-abbrev pub counted_after : List ℕ → ManifestChange → Trees → List ℕ → List ℕ
+abbrev pub counted_after : (prefix : List ℕ) (change : ManifestChange) (trees : Trees) (flushes : List ℕ) → List ℕ
 counted_after prefix (ManifestEpoch epoch) trees flushes = flushes
 counted_after prefix (Flush name segment floor tick) trees flushes =
     if bytes_eq prefix segment then name ∷ flushes else flushes
@@ -57,7 +58,8 @@ counted_in prefix (PutManifest change) trees flushes = counted_after prefix chan
 counted_in prefix event trees flushes = flushes
 
 -- The flushes that count after these entries, taken one after the other.
-abbrev pub counted_from : Tables → (ℕ → JobSpec) → List ℕ → Objects → List ℕ → List Entry → List ℕ
+abbrev pub counted_from : (tables : Tables) (specs : ℕ → JobSpec) (prefix : List ℕ) (o : Objects) (flushes : List ℕ)
+    (history : List Entry) → List ℕ
 counted_from tables specs prefix o flushes [] = flushes
 counted_from tables specs prefix o flushes (entry ∷ history) =
     let after = after_entry tables specs entry o in

@@ -24,7 +24,8 @@ abbrev pub NoneOf : {who : Caller} {old new : World} → Party → Rivals who ol
 NoneOf party rivals = AllByRecursion (λ call. call.party ≢ party) rivals.calls
 
 -- A run of the course, as `Runs` has it, in which no call that comes in between is one of this party.
-abbrev pub RunsBeside : {A : Type 0} → Party → Caller → Course A → (old new : World) → End A → Type 0
+abbrev pub RunsBeside : {A : Type 0} → (party : Party) (who : Caller) (course : Course A) → (old new : World)
+    → (end : End A) → Type 0
 RunsBeside party who (Ends answer) old new end = (old ≡ new) × EndsAs answer end
 RunsBeside party who (Calls x next) old new end =
     (met : World) × ((rivals : Rivals who old met) × (NoneOf party rivals × (StopsAt who x met new end

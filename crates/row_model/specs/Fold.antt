@@ -12,7 +12,7 @@ Operator = List ℕ → Option (List ℕ) → List ℕ → Outcome
 
 -- Merges one operand onto an existing outcome, if there is one. If the existing outcome is a refusal, that
 -- refusal is the answer. Otherwise, if the operand is a refusal, the operand is the answer.
-abbrev pub merge_one : Operator → List ℕ → Option Outcome → Outcome → Outcome
+abbrev pub merge_one : (merge : Operator) (key : List ℕ) (e : Option Outcome) (x : Outcome) → Outcome
 merge_one merge key (Some (Refused message)) x = Refused message
 merge_one merge key None (Refused message) = Refused message
 merge_one merge key (Some (Merged bytes)) (Refused message) = Refused message
@@ -21,7 +21,7 @@ merge_one merge key (Some (Merged bytes)) (Merged operand) = merge key (Some byt
 
 -- Merges the operands, oldest first, one by one onto an existing outcome, if there is one. The answer is
 -- None if there is neither an existing outcome nor an operand.
-abbrev pub fold : Operator → List ℕ → Option Outcome → List Outcome → Option Outcome
+abbrev pub fold : (merge : Operator) (key : List ℕ) (e : Option Outcome) (xs : List Outcome) → Option Outcome
 fold merge key e [] = e
 fold merge key e (x ∷ xs) = fold merge key (Some (merge_one merge key e x)) xs
 

@@ -24,7 +24,7 @@ pub record Row : Type 0 where
   pub expires : Option ℤ  -- from this moment on the row is expired
 
 -- Compares keys byte by byte. A key is less than each longer key that begins with it.
-abbrev pub key_cmp : List ℕ → List ℕ → Ordering
+abbrev pub key_cmp : (a b : List ℕ) → Ordering
 key_cmp = slice_cmp nat_cmp
 
 -- The order of rows: keys rise, and within a key sequences fall.

@@ -10,7 +10,7 @@ use Rattle.row_model.specs.Ranges.{Range, rows_in}
 -- Puts a key among the rising keys `first ∷ keys`, by how it compares to `first`. A lesser key comes before
 -- them, and an equal key is there already. For a greater key, `later` is `keys` with the key put among
 -- them.
-abbrev pub with_key : Ordering → List ℕ → List ℕ → List (List ℕ) → List (List ℕ) → List (List ℕ)
+abbrev pub with_key : (order : Ordering) (key first : List ℕ) (keys later : List (List ℕ)) → List (List ℕ)
 with_key Less key first keys later = key ∷ first ∷ keys
 with_key Equal key first keys later = first ∷ keys
 with_key Greater key first keys later = first ∷ later

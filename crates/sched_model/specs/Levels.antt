@@ -39,7 +39,7 @@ abbrev pub node_size : List Handle → Node → ℕ
 node_size handles node = saturated_sum (sum_by (size_of_table handles) node.pieces)
 
 -- True if each run except the last one is at most as large as the limit of its place.
-abbrev pub are_runs_within : LevelOptions → List Handle → ℕ → List Node → Bool
+abbrev pub are_runs_within : (o : LevelOptions) (handles : List Handle) (place : ℕ) (runs : List Node) → Bool
 are_runs_within o handles place [] = true
 are_runs_within o handles place (run ∷ []) = true
 are_runs_within o handles place (run ∷ next ∷ runs) =
@@ -80,8 +80,8 @@ pick_into_run segment flushes run p =
     else with_level_pick (record { segment = segment; sources = flushes ++ run ∷ []; destination = run_id run }) p
 
 -- Picks all flushes into the newest run if its size is at most the base, and otherwise into a fresh run.
-abbrev pub pick_flushes_into : LevelOptions → List Handle → List ℕ → List NodeName → List Node → LevelPicking
-    → LevelPicking
+abbrev pub pick_flushes_into : (o : LevelOptions) (handles : List Handle) (segment : List ℕ) (flushes : List NodeName)
+    (runs : List Node) (p : LevelPicking) → LevelPicking
 pick_flushes_into o handles segment flushes [] p = with_fresh_pick segment flushes p
 pick_flushes_into o handles segment flushes (run ∷ runs) p =
     if nat_le (node_size handles run) o.base then pick_into_run segment flushes run.name p
@@ -106,14 +106,15 @@ pick_pair o handles segment place run next p =
     else p
 
 -- Looks at each run of a tree except the oldest, from the newest on, and picks it if it is above its limit.
-abbrev pub pick_runs : LevelOptions → List Handle → List ℕ → ℕ → List Node → LevelPicking → LevelPicking
+abbrev pub pick_runs : (o : LevelOptions) (handles : List Handle) (segment : List ℕ) (place : ℕ) (runs : List Node)
+    (p : LevelPicking) → LevelPicking
 pick_runs o handles segment place [] p = p
 pick_runs o handles segment place (run ∷ []) p = p
 pick_runs o handles segment place (run ∷ next ∷ runs) p =
     pick_runs o handles segment (place + 1) (next ∷ runs) (pick_pair o handles segment place run next p)
 
 -- Looks at the trees in their order, and in each tree at the flushes first and then at the runs.
-abbrev pub pick_trees : LevelOptions → List Handle → Trees → LevelPicking → LevelPicking
+abbrev pub pick_trees : (o : LevelOptions) (handles : List Handle) (trees : Trees) (p : LevelPicking) → LevelPicking
 pick_trees o handles [] p = p
 pick_trees o handles (s ∷ trees) p =
     pick_trees o handles trees (pick_runs o handles s.prefix 0 (runs_of s.tree) (pick_flushes o handles s p))

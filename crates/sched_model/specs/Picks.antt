@@ -62,7 +62,7 @@ abbrev pub picked_in : TieredOptions → Planned → Picking → Picking
 picked_in o t p = record { fresh = fresh_after o t p.fresh; picks = p.picks ++ option_to_list (next_pick o p.fresh t) }
 
 -- A pass over the trees: at most one pick in each, while there are fewer picks than slots.
-abbrev pub pass : TieredOptions → ℕ → List Planned → Picking → List Planned × Picking
+abbrev pub pass : (o : TieredOptions) (slots : ℕ) (trees : List Planned) (p : Picking) → List Planned × Picking
 pass o slots [] p = ([], p)
 pass o slots (t ∷ trees) p =
     if nat_lt (length p.picks) slots
@@ -70,6 +70,6 @@ pass o slots (t ∷ trees) p =
     else (t ∷ trees, p)
 
 -- The picks of a number of passes, one after the other.
-abbrev pub passes : TieredOptions → ℕ → ℕ → List Planned → Picking → List JobSpec
+abbrev pub passes : (o : TieredOptions) (slots count : ℕ) (trees : List Planned) (p : Picking) → List JobSpec
 passes o slots zero trees p = p.picks
 passes o slots (suc count) trees p = let after = pass o slots trees p in passes o slots count after.0 after.1

@@ -36,7 +36,7 @@ is_similar o (Some size) run = nat_le run.size (threshold o size)
 
 -- The longest series that begins with the first runs and goes on with the next ones, as long as each of them
 -- may be added. The test is given the series so far, the run, and the older runs.
-abbrev pub longest : (List Sized → Sized → List Sized → Bool) → List Sized → List Sized → List Sized
+abbrev pub longest : (may_add : List Sized → Sized → List Sized → Bool) (series runs : List Sized) → List Sized
 longest may_add series [] = series
 longest may_add series (run ∷ older) =
     if may_add series run older then longest may_add (series ++ run ∷ []) older else series

@@ -47,7 +47,7 @@ abbrev pub lowest_run : List NodeName → Option ℕ
 lowest_run sources = lowest_of (run_ids sources)
 
 -- True if both ids are equal, or one of them is missing.
-abbrev pub agree : Option ℕ → Option ℕ → Bool
+abbrev pub agree : (lowest id : Option ℕ) → Bool
 agree None id = true
 agree (Some lowest) None = true
 agree (Some lowest) (Some id) = lowest == id

@@ -35,7 +35,8 @@ runs_one_course _ = true
 
 -- The lines take the old state to the new one, each with its reply. `number` is the number of the
 -- first line.
-abbrev pub ScriptRun : Inputs → ℕ → State → List Line → List (List ℕ) → State → Type 0
+abbrev pub ScriptRun : (inputs : Inputs) (number : ℕ) (old : State) (lines : List Line) (answers : List (List ℕ))
+    (new : State) → Type 0
 ScriptRun inputs number old [] [] new = new ≡ old
 ScriptRun inputs number old (line ∷ lines) (answer ∷ answers) new =
     (mid : State) × LineStep inputs number old line answer mid × ScriptRun inputs (number + 1) mid lines answers new

@@ -57,7 +57,7 @@ range_at s worker job place =
 -- The course of a line. The message is given if the operator refuses at a line that writes tables.
 -- A settle line has this course only if one of its parties is not live; otherwise it is a run of
 -- other lines' courses. A together line never has it.
-unfoldable pub course_of : Inputs → Line → Option (List ℕ) → State → LineCourse
+unfoldable pub course_of : (inputs : Inputs) (line : Line) (refusal : Option (List ℕ)) (s : State) → LineCourse
 course_of inputs (Options timeout concurrent slots ranges table_size moves retention) refusal s = only_replies s ok
 course_of inputs (Clock moment) refusal s = only_replies s ok
 course_of inputs (StartCoordinator n) refusal s = start_coordinator n s

@@ -15,7 +15,7 @@ use Rattle.step_model.specs.Steps.OutputSteps.{Written}
 use Rattle.step_model.specs.Steps.FinishSteps.{FinishedJob}
 
 -- The end of a run says the end of the course that ran alone. If memory runs out, it says nothing.
-abbrev pub IsAloneEnd : {A : Type 0} → End A → World → Option Fault → AloneEnd A → Type 0
+abbrev pub IsAloneEnd : {A : Type 0} → (end : End A) (new : World) (left : Option Fault) (alone : AloneEnd A) → Type 0
 IsAloneEnd (Gives answer) new left alone = alone ≡ record { answer = Some answer; store = new.store; fault = left }
 IsAloneEnd MeetsFault new left alone = alone ≡ record { answer = None; store = new.store; fault = left }
 IsAloneEnd LacksMemory new left alone = ⊤

@@ -8,7 +8,7 @@ use Rattle.fleet_model.specs.Past.Replay.{named_specs}
 use Rattle.fleet_model.specs.History.{Party, Writer, Submitter, Coordinator, Worker, Sweeper, Event, PutTable, PutManifest, PutRecords, DrawJob, DrawTable, Plan, ManifestEpoch, Flush, Commit, Claim, Beat, Finish, Release, Answer, Done, Entry, stood}
 
 -- Two parties are equal if they have the same kind and the same number.
-abbrev pub party_eq : Party → Party → Bool
+abbrev pub party_eq : (party other : Party) → Bool
 party_eq Writer Writer = true
 party_eq Submitter Submitter = true
 party_eq Sweeper Sweeper = true
@@ -186,7 +186,7 @@ abbrev pub is_in : (job attempt : ℕ) (attempts : List (ℕ × ℕ)) → Bool
 is_in job attempt attempts = list_any (λ a. (job == a.0) && (attempt == a.1)) attempts
 
 -- True if the event is a claim of this attempt by this worker.
-abbrev pub is_claim_of : ℕ → ℕ → ℕ → Event → Bool
+abbrev pub is_claim_of : (worker job attempt : ℕ) (event : Event) → Bool
 is_claim_of worker job attempt (PutRecords (Claim other attempts)) = (worker == other) && is_in job attempt attempts
 is_claim_of worker job attempt _ = false
 

@@ -12,7 +12,7 @@ use Rattle.step_model.specs.LawfulRecords.{NamesFit, RecordsFit}
 
 -- A call of the party is lawful by its kind. A put of a version that is no longer stored is refused,
 -- so nothing is asked of its value. But its entry names jobs, and these must be fit to be named.
-abbrev pub Lawful : Operator → Party → World → Exchange → Type 0
+abbrev pub Lawful : (merge : Operator) (party : Party) (world : World) (x : Exchange) → Type 0
 Lawful merge party world (Plain event) = PlainFits party world.store event
 Lawful merge party world (DrawsJob moment) = DrawFits world.store
 Lawful merge party world (DrawsTable moment) = DrawFits world.store

@@ -95,7 +95,7 @@ pub record DrainFits (world : World) (trees : Trees) (joined : List ℕ) (spec :
 
 -- A step of a commit fits these trees. `joined` has the jobs that earlier steps of the commit
 -- joined, and the spec is that of the step's job.
-abbrev pub StepFits : World → Trees → (joined : List ℕ) → JobSpec → Step → Type 0
+abbrev pub StepFits : (world : World) (trees : Trees) → (joined : List ℕ) → (spec : JobSpec) (step : Step) → Type 0
 StepFits world trees joined spec (Join id) = JoinFits world trees joined id
 StepFits world trees joined spec (Move id) = MoveFits world trees joined spec id
 StepFits world trees joined spec (Drain id) = DrainFits world trees joined spec id
@@ -107,7 +107,8 @@ joined_after (Move id) joined = joined
 joined_after (Drain id) joined = joined
 
 -- Each step of a commit fits the trees that the steps before it left.
-abbrev pub StepsFit : World → (ℕ → JobSpec) → Trees → (joined : List ℕ) → List Step → Type 0
+abbrev pub StepsFit : (world : World) (specs : ℕ → JobSpec) (trees : Trees) → (joined : List ℕ) → (steps : List Step)
+    → Type 0
 StepsFit world specs trees joined [] = ⊤
 StepsFit world specs trees joined (step ∷ steps) =
     StepFits world trees joined (specs (job_of step)) step
@@ -156,7 +157,7 @@ pub record CommitFits (party : Party) (world : World) (steps : List Step) (value
 -- ---- all changes
 
 -- A manifest may be put for an epoch, a flush or a commit that fits.
-abbrev pub ManifestFits : Party → World → ManifestChange → Manifest → Type 0
+abbrev pub ManifestFits : (party : Party) (world : World) (change : ManifestChange) (value : Manifest) → Type 0
 ManifestFits party world (ManifestEpoch epoch) value = ManifestEpochFits party world epoch value
 ManifestFits party world (Flush name segment floor tick) value = FlushFits party world name segment floor tick value
 ManifestFits party world (Commit steps) value = CommitFits party world steps value

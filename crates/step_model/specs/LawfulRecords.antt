@@ -144,7 +144,8 @@ pub record PollFits (party : Party) (world : World) (unrecorded : Unrecorded) (c
 -- ---- all changes
 
 -- A change of the records fits, by its kind. `jobs` are the jobs that are put.
-abbrev pub ChangeFits : Operator → Party → World → Unrecorded → (jobs : Jobs) → RecordChange → Type 0
+abbrev pub ChangeFits : (merge : Operator) (party : Party) (world : World) (unrecorded : Unrecorded) → (jobs : Jobs)
+    → (change : RecordChange) → Type 0
 ChangeFits merge party world unrecorded jobs (RecordsEpoch epoch) = RecordsEpochFits party world epoch
 ChangeFits merge party world unrecorded jobs (Submit named) = SubmitFits party world named
 ChangeFits merge party world unrecorded jobs (Claim worker attempts) = ClaimFits party world worker attempts

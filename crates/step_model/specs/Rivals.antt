@@ -14,7 +14,7 @@ abbrev pub Strike : Type 0
 Strike = Option Bool
 
 -- The store after a call.
-abbrev pub store_after_call : ℕ → Party → Exchange → Strike → Store → Store
+abbrev pub store_after_call : (line : ℕ) (party : Party) (x : Exchange) (strike : Strike) (store : Store) → Store
 store_after_call line party x None store = after_answered line party x store
 store_after_call line party x (Some stands) store = struck_by stands line party x store
 

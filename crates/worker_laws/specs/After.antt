@@ -12,7 +12,8 @@ use Rattle.step_model.specs.Courses.StepEnds.{StepEnd, Reports}
 -- The worker fits the store after a step that ended so. If the step reports, the worker fits with
 -- the attempts of the report. If it ends otherwise, or memory runs out, the worker fits with those
 -- that it ran before. A worker whose call met a fault runs nothing any more.
-abbrev pub FitsAfterwards : {A : Type 0} → Operator → LiveWorker → (A → List Attempt) → World → End (StepEnd A) → Type 0
+abbrev pub FitsAfterwards : {A : Type 0} → (merge : Operator) (w : LiveWorker) (attempts : A → List Attempt)
+    (new : World) (end : End (StepEnd A)) → Type 0
 FitsAfterwards merge w attempts new (Gives (Reports report)) =
     WorkerHolds merge new (record w { attempts = attempts report })
 FitsAfterwards merge w attempts new (Gives answer) = WorkerHolds merge new w

@@ -56,13 +56,15 @@ pub record TookJobs (who : Caller) (options : WorkerOptions) (moment : ℕ) (w :
   pub lost : AllByRecursion (IsLost w shown.store) these
 
 -- A claim that took no job put nothing, and began and released nothing.
-abbrev pub TookThese : Caller → WorkerOptions → ℕ → LiveWorker → World → Records → Jobs → Claimed → Type 0
+abbrev pub TookThese : (who : Caller) (options : WorkerOptions) (moment : ℕ) (w : LiveWorker) (found : World)
+    (got : Records) (these : Jobs) (report : Claimed) → Type 0
 TookThese who options moment w found got [] report = (report.begun ≡ []) × (report.released ≡ [])
 TookThese who options moment w found got (job ∷ jobs) report =
     TookJobs who options moment w found got (job ∷ jobs) report
 
 -- A claim takes the jobs of its rule, if there are records.
-abbrev pub TookOf : Caller → WorkerOptions → ℕ → LiveWorker → World → Option Records → Claimed → Type 0
+abbrev pub TookOf : (who : Caller) (options : WorkerOptions) (moment : ℕ) (w : LiveWorker) (found : World)
+    (got : Option Records) (report : Claimed) → Type 0
 TookOf who options moment w found None report = (report.begun ≡ []) × (report.released ≡ [])
 TookOf who options moment w found (Some got) report =
     TookThese who options moment w found got (claimed_jobs options.slots w got.jobs) report

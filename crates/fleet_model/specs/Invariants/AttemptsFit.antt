@@ -61,7 +61,7 @@ pub record JobContext (merge : Operator) (store : Store) (specs : ℕ → JobSpe
   pub fits : IfSome job.context (ContextFits merge store specs job)
 
 -- Both lists have the same ranges, and the old tables of each range are a prefix of its new tables.
-abbrev pub Extends : List (Range × List ℕ) → List (Range × List ℕ) → Type 0
+abbrev pub Extends : (old new : List (Range × List ℕ)) → Type 0
 Extends [] [] = ⊤
 Extends [] (r ∷ ranges) = ⊥
 Extends (q ∷ old) [] = ⊥

@@ -28,7 +28,7 @@ NodesHeldOnce jobs = Pairs HoldApart jobs
 
 -- There is a destination, and it is the lowest source run. If no run is a source, the destination is above
 -- every run of its tree and in no tree.
-abbrev pub DestinationFits : Trees → Tree → List NodeName → Option ℕ → Type 0
+abbrev pub DestinationFits : (trees : Trees) (tree : Tree) (sources : List NodeName) (destination : Option ℕ) → Type 0
 DestinationFits trees tree sources None = ⊥
 DestinationFits trees tree sources (Some id) =
     IsTrue (is_lowest_or_above id (run_ids sources) (run_ids (names tree)))

@@ -47,7 +47,7 @@ is_same n None = false
 is_same n (Some m) = n == m
 
 -- The worker that claims this attempt, if the event is such a claim.
-abbrev pub claimant_in : ℕ → ℕ → Event → Option ℕ
+abbrev pub claimant_in : (job attempt : ℕ) (event : Event) → Option ℕ
 claimant_in job attempt (PutRecords (Claim worker attempts)) =
     if is_same attempt (attempt_number_at job attempts) then Some worker else None
 claimant_in job attempt _ = None
@@ -90,7 +90,8 @@ objects_found _ _ o = None
 
 -- The objects that are stored at the worker's next entry, if that entry is the get after its claim.
 -- Otherwise it is None.
-abbrev pub objects_at_get : Tables → (ℕ → JobSpec) → ℕ → List Entry → Objects → Option Objects
+abbrev pub objects_at_get : (tables : Tables) (specs : ℕ → JobSpec) (worker : ℕ) (history : List Entry) (o : Objects)
+    → Option Objects
 objects_at_get tables specs worker [] o = None
 objects_at_get tables specs worker (entry ∷ history) o =
     if is_worker worker entry.party then objects_found entry.event entry.answer o
@@ -112,12 +113,12 @@ settings_of tables specs history job attempt =
     (cut_at_claim job (origin history job attempt) history))
 
 -- The ranges of the attempt, if the event notes them.
-abbrev pub planned_in : ℕ → ℕ → Event → Option (List Range)
+abbrev pub planned_in : (job attempt : ℕ) (event : Event) → Option (List Range)
 planned_in job attempt (Plan other number ranges) = if (job == other) && (attempt == number) then Some ranges else None
 planned_in job attempt _ = None
 
 -- The ranges in the first note that names the attempt.
-abbrev pub noted_plan : ℕ → ℕ → List Entry → Option (List Range)
+abbrev pub noted_plan : (job attempt : ℕ) (history : List Entry) → Option (List Range)
 noted_plan job attempt [] = None
 noted_plan job attempt (entry ∷ history) =
     option_or (planned_in job attempt entry.event) (noted_plan job attempt history)

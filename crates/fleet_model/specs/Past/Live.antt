@@ -38,7 +38,7 @@ fenced_by n epoch s = if nat_lt (last_epoch n s.coordinators) epoch then without
 
 -- The parties after an event of a coordinator. A get may fence it, a put of an epoch that is done gives it
 -- that epoch, and its notes say when it comes and goes.
-abbrev pub coordinator_did : ℕ → Event → Answer → LiveParties → LiveParties
+abbrev pub coordinator_did : (n : ℕ) (event : Event) (answer : Answer) (s : LiveParties) → LiveParties
 coordinator_did n GetManifest answer s = fenced_by n s.objects.manifest.epoch s
 coordinator_did n GetRecords answer s = fenced_by n (records_epoch s.objects.records) s
 coordinator_did n (PutManifest (ManifestEpoch epoch)) (Done version) s = record s { epochs = (n, epoch) ∷ s.epochs }
@@ -58,7 +58,7 @@ worker_did n _ s = s
 
 -- The parties after an event of a party. A coordinator or a worker that meets a fault is no longer live.
 -- Other parties are never counted as live.
-abbrev pub party_did : Party → Event → Answer → LiveParties → LiveParties
+abbrev pub party_did : (party : Party) (event : Event) (answer : Answer) (s : LiveParties) → LiveParties
 party_did Writer event answer s = s
 party_did Submitter event answer s = s
 party_did Sweeper event answer s = s
@@ -67,7 +67,7 @@ party_did (Coordinator n) event answer s =
 party_did (Worker n) event answer s = if is_fault answer then without_worker_of n s else worker_did n event s
 
 -- The parties after these entries, taken one after the other.
-abbrev pub live_from : Tables → (ℕ → JobSpec) → LiveParties → List Entry → LiveParties
+abbrev pub live_from : (tables : Tables) (specs : ℕ → JobSpec) (s : LiveParties) (history : List Entry) → LiveParties
 live_from tables specs s [] = s
 live_from tables specs s (entry ∷ history) =
     let t = party_did entry.party entry.event entry.answer s in

@@ -48,7 +48,8 @@ outputs_in None job = []
 outputs_in (Some records) job = outputs_of (job_with job records.jobs)
 
 -- The objects after a put of the manifest that took effect.
-abbrev pub after_manifest_change : Tables → (ℕ → JobSpec) → ManifestChange → Objects → Objects
+abbrev pub after_manifest_change : (tables : Tables) (specs : ℕ → JobSpec) (change : ManifestChange) (o : Objects)
+    → Objects
 after_manifest_change tables specs (ManifestEpoch epoch) o = record o {
   manifest = record o.manifest { version = o.manifest.version + 1; epoch = epoch };
 }
@@ -95,7 +96,7 @@ after_record_change change o =
     }
 
 -- The objects after an event. Only puts of the manifest and of the records change them.
-abbrev pub after_event : Tables → (ℕ → JobSpec) → Event → Objects → Objects
+abbrev pub after_event : (tables : Tables) (specs : ℕ → JobSpec) (event : Event) (o : Objects) → Objects
 after_event tables specs (PutManifest change) o = after_manifest_change tables specs change o
 after_event tables specs (PutRecords change) o = after_record_change change o
 after_event tables specs _ o = o
@@ -105,7 +106,7 @@ abbrev pub after_entry : (tables : Tables) (specs : ℕ → JobSpec) (entry : En
 after_entry tables specs entry o = if stood entry.answer then after_event tables specs entry.event o else o
 
 -- The objects after these entries, taken one after the other.
-abbrev pub replayed_objects : Tables → (ℕ → JobSpec) → List Entry → Objects → Objects
+abbrev pub replayed_objects : (tables : Tables) (specs : ℕ → JobSpec) (history : List Entry) (o : Objects) → Objects
 replayed_objects tables specs [] o = o
 replayed_objects tables specs (entry ∷ history) o =
     replayed_objects tables specs history (after_entry tables specs entry o)

@@ -23,7 +23,7 @@ is_nonempty [] = false
 is_nonempty (x ∷ xs) = true
 
 -- True if every flush that is older than the newest named flush is named too.
-abbrev pub names_older : List NodeName → List NodeName → Bool
+abbrev pub names_older : (sources nodes : List NodeName) → Bool
 names_older sources [] = true
 names_older sources (L0 name ∷ rest) =
     if names_contain sources (L0 name) then list_all (λ other. not (is_l0 other) || names_contain sources other) rest

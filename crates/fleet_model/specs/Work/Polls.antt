@@ -20,7 +20,7 @@ free_stale input p = with_freed (ids (filter (is_stale input.options.timeout inp
 -- Step 2, for one job. If a rule of the gate failed, the job fails. Otherwise its run replaces its sources.
 -- The horizon rises to the cut that the job kept, or to the floor if it kept none, unless it is higher
 -- already.
-abbrev pub commit_by : PollInput → Job → Option ℕ → PollState → PollState
+abbrev pub commit_by : (input : PollInput) (job : Job) (rule : Option ℕ) (p : PollState) → PollState
 commit_by input job (Some rule) p = record p {
   jobs = changed_jobs to_failed (job.id ∷ []) p.jobs;
   lost = p.lost ++ (job.id, rule) ∷ [];
@@ -47,7 +47,7 @@ abbrev pub commit_finished : PollInput → PollState → PollState
 commit_finished input p = each (commit_job input) (filter (has_status Compacted) p.jobs) p
 
 -- True if both destinations are the same run, or if both jobs are drains and of one segment.
-abbrev pub same_target : Option ℕ → Option ℕ → Bool → Bool
+abbrev pub same_target : (destination other : Option ℕ) (same_segment : Bool) → Bool
 same_target None None same_segment = same_segment
 same_target None (Some b) same_segment = false
 same_target (Some a) None same_segment = false
@@ -60,7 +60,7 @@ clashes spec job =
     is_active job && same_target spec.destination job.spec.destination (bytes_eq spec.segment job.spec.segment)
 
 -- Step 3, for one proposal. It is dropped if it clashes with an active job, and becomes a job otherwise.
-abbrev pub add_by : ℕ → ℕ → JobSpec → Bool → PollState → PollState
+abbrev pub add_by : (id place : ℕ) (spec : JobSpec) (does_clash : Bool) (p : PollState) → PollState
 add_by id place spec true p = record p { dropped = p.dropped ++ place ∷ [] }
 add_by id place spec false p = record p {
   jobs = put_job (new_job (id, spec)) p.jobs;
@@ -115,7 +115,7 @@ schedule_job job p = record p {
 
 -- Step 4, for one job. If a rule of the gate failed, the job fails. Otherwise it is drained, moved or
 -- opened.
-abbrev pub open_by : PollInput → Job → Option ℕ → PollState → PollState
+abbrev pub open_by : (input : PollInput) (job : Job) (rule : Option ℕ) (p : PollState) → PollState
 open_by input job (Some rule) p = record p {
   jobs = changed_jobs to_failed (job.id ∷ []) p.jobs;
   refused = p.refused ++ (job.id, rule) ∷ [];

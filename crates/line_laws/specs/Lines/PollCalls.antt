@@ -61,7 +61,8 @@ pub record PollCalled (inputs : Inputs) (number : ℕ) (commits_only : Bool) (n 
       (ends_as (poll_ask inputs old c commits_only) old.store)
 
 -- The same for a coordinator that may be live. If it is not, the line is refused and changes nothing.
-abbrev pub PollCalledBy : Inputs → ℕ → Bool → ℕ → State → List ℕ → State → Option LiveCoordinator → Type 0
+abbrev pub PollCalledBy : (inputs : Inputs) (number : ℕ) (commits_only : Bool) (n : ℕ) (old : State) (answer : List ℕ)
+    (new : State) (c : Option LiveCoordinator) → Type 0
 PollCalledBy inputs number commits_only n old answer new None =
     (answer ≡ reply (codes "nosuchparty" ∷ [])) × (new ≡ old)
 PollCalledBy inputs number commits_only n old answer new (Some c) =

@@ -16,7 +16,7 @@ abbrev pub max_anchors : ℕ
 max_anchors = 128
 
 -- Takes the blocks whose number is a multiple of the stride. The blocks are numbered from `i` on.
-abbrev pub every : ℕ → ℕ → List Block → List Block
+abbrev pub every : (stride i : ℕ) (bs : List Block) → List Block
 every stride i [] = []
 every stride i (b ∷ bs) = if i % stride == 0 then b ∷ every stride (i + 1) bs else every stride (i + 1) bs
 
@@ -46,7 +46,7 @@ anchors_by_key (a ∷ anchors) = put_anchor a (anchors_by_key anchors)
 -- hold. The bytes of all anchors before it reach the threshold. Fewer than most - 1 cuts were made before
 -- it. Its key is greater than `last`: the key of the last cut, or the smallest key if there was no cut.
 -- Each cut raises the threshold by the target, while the bytes are still counted from the first anchor.
-abbrev pub cuts : ℕ → ℕ → ℕ → ℕ → ℕ → List ℕ → List Anchor → List (List ℕ)
+abbrev pub cuts : (most target standing before threshold : ℕ) (last : List ℕ) (anchors : List Anchor) → List (List ℕ)
 cuts most target standing before threshold last [] = []
 cuts most target standing before threshold last (a ∷ anchors) =
     if nat_le threshold before && nat_lt (standing + 1) most && is_lt (key_cmp last a.key)

@@ -49,7 +49,7 @@ or_full filled = if nat_le block_bytes filled then 0 else filled
 abbrev pub block_at : (offset filled : ℕ) (r : Row) (later : List Block) → List Block
 block_at offset filled r later = if filled == 0 then record { first_key = r.key; offset = offset } ∷ later else later
 
-abbrev pub blocks_from : ℕ → ℕ → List Row → List Block
+abbrev pub blocks_from : (offset filled : ℕ) (rows : List Row) → List Block
 blocks_from offset filled [] = []
 blocks_from offset filled (r ∷ rows) =
     block_at offset filled r

@@ -12,7 +12,7 @@ with_row false r (table ∷ tables) = (r ∷ table) ∷ tables
 
 -- Cuts rows into tables. A table ends with the row with which it first exceeds `size` bytes. The first
 -- table already has `filled` bytes.
-abbrev pub cut_from : ℕ → ℕ → List Row → List (List Row)
+abbrev pub cut_from : (size filled : ℕ) (rows : List Row) → List (List Row)
 cut_from size filled [] = []
 cut_from size filled (r ∷ rows) =
     let full = nat_lt size (filled + estimated_size r) in

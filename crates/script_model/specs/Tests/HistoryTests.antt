@@ -25,7 +25,7 @@ specs_in history id =
 
 -- ---- the replay
 
-abbrev same_seq : Option ℕ → Option ℕ → Bool
+abbrev same_seq : (a b : Option ℕ) → Bool
 same_seq None None = true
 same_seq (Some a) (Some b) = a == b
 same_seq _ _ = false

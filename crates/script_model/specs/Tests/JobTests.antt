@@ -24,7 +24,7 @@ use Rattle.fleet_model.specs.Sweeps.{attempt_tables}
 
 -- ---- equal values
 
-abbrev same_content : Content → Content → Bool
+abbrev same_content : (a b : Content) → Bool
 same_content (Value a) (Value b) = bytes_eq a b
 same_content (Merge a) (Merge b) = bytes_eq a b
 same_content Tombstone Tombstone = true
@@ -36,12 +36,12 @@ same_row a b =
     && same_stamp a.expires b.expires
 
 -- The first rows are a prefix of the second ones.
-abbrev pub begin_rows : List Row → List Row → Bool
+abbrev pub begin_rows : (front rows : List Row) → Bool
 begin_rows [] rows = true
 begin_rows (q ∷ front) [] = false
 begin_rows (q ∷ front) (r ∷ rows) = same_row q r && begin_rows front rows
 
-abbrev same_bound : Bound → Bound → Bool
+abbrev same_bound : (a b : Bound) → Bool
 same_bound Unbounded Unbounded = true
 same_bound (Included a) (Included b) = bytes_eq a b
 same_bound (Excluded a) (Excluded b) = bytes_eq a b
@@ -50,7 +50,7 @@ same_bound _ _ = false
 abbrev same_range : (a b : Range) → Bool
 same_range a b = same_bound a.from b.from && same_bound a.to b.to
 
-abbrev same_flag : Bool → Bool → Bool
+abbrev same_flag : (a b : Bool) → Bool
 same_flag true b = b
 same_flag false b = not b
 
@@ -70,7 +70,7 @@ are_ranges ranges (Some others) = pointwise same_range ranges others
 abbrev pub hold_apart : (a b : Job) → Bool
 hold_apart a b = not (reserves_nodes a && reserves_nodes b) || is_apart (nodes_of a.spec) (nodes_of b.spec)
 
-abbrev destination_stands : Trees → Tree → List NodeName → Option ℕ → Bool
+abbrev destination_stands : (trees : Trees) (tree : Tree) (sources : List NodeName) (destination : Option ℕ) → Bool
 destination_stands trees tree sources None = false
 destination_stands trees tree sources (Some id) =
     is_lowest_or_above id (run_ids sources) (run_ids (names tree))
@@ -119,7 +119,8 @@ context_stands merge store specs job attempt sources context =
     (λ range. begin_rows (noted_rows store.tables range.1)
     (range_rows merge store.tables context.settings sources range.0).rows) context.ranges
 
-abbrev context_fits : Operator → Store → (ℕ → JobSpec) → Job → Option Context → Bool
+abbrev context_fits : (merge : Operator) (store : Store) (specs : ℕ → JobSpec) (job : Job) (context : Option Context)
+    → Bool
 context_fits merge store specs job None = true
 context_fits merge store specs job (Some context) =
     context_stands merge store specs job.id job.attempt job.source_tables context
@@ -139,7 +140,7 @@ makes_all made rows = made.whole && begin_rows made.rows rows && begin_rows rows
 abbrev with_kept_cut : Option ℕ → Settings → Settings
 with_kept_cut kept settings = record settings { cut = cut_or settings.floor kept }
 
-abbrev outputs_fit_by : Operator → Store → Job → Option Settings → Bool
+abbrev outputs_fit_by : (merge : Operator) (store : Store) (job : Job) (found : Option Settings) → Bool
 outputs_fit_by merge store job None = false
 outputs_fit_by merge store job (Some found) =
     let settings = with_kept_cut job.kept_cut found in

@@ -7,7 +7,7 @@ use Rattle.row_model.specs.Read.{read}
 use Rattle.fleet_model.specs.Nodes.{flushed_node_rows, flushed_rows, stored_rows, Segment}
 use Rattle.fleet_model.specs.Store.{Manifest, Store}
 
-abbrev same_answer : Option Outcome → Option Outcome → Bool
+abbrev same_answer : (a b : Option Outcome) → Bool
 same_answer None None = true
 same_answer (Some (Merged a)) (Some (Merged b)) = bytes_eq a b
 same_answer (Some (Refused a)) (Some (Refused b)) = bytes_eq a b

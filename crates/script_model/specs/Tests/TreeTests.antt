@@ -19,7 +19,7 @@ all_pairs test (x ∷ xs) = list_all (test x) xs && all_pairs test xs
 -- ---- one tree
 
 -- Flushes are before runs, and the ids of runs fall.
-abbrev pub is_before : NodeName → NodeName → Bool
+abbrev pub is_before : (name other : NodeName) → Bool
 is_before (L0 a) other = true
 is_before (Run a) (L0 b) = false
 is_before (Run a) (Run b) = nat_lt b a

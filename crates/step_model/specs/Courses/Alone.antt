@@ -13,7 +13,8 @@ pub record AloneEnd (A : Type 0) : Type 0 where
   pub fault : Option Fault
 
 -- The party makes the calls of the course in order. It stops at the call that the fault strikes.
-abbrev pub run_alone : {A : Type 0} → ℕ → Party → Course A → Option Fault → Store → AloneEnd A
+abbrev pub run_alone : {A : Type 0} → (line : ℕ) (party : Party) (course : Course A) (fault : Option Fault)
+    (store : Store) → AloneEnd A
 run_alone line party (Ends answer) fault store = record { answer = Some answer; store = store; fault = fault }
 run_alone line party (Calls x next) fault store =
     if strikes (event_of x store) fault

@@ -39,7 +39,8 @@ beat_report w jobs = record {
 
 -- A heartbeat with these live attempts. If there is at least one, the heartbeat puts the records:
 -- it renews the leases of the attempts to the moment and publishes their contexts.
-abbrev pub beat_of : ℕ → LiveWorker → Records → List Attempt → (ℕ → Course (StepEnd Beaten)) → Course (StepEnd Beaten)
+abbrev pub beat_of : (moment : ℕ) (w : LiveWorker) (got : Records) (live : List Attempt)
+    (again : ℕ → Course (StepEnd Beaten)) → Course (StepEnd Beaten)
 beat_of moment w got [] again = Ends (Reports (beat_report w got.jobs))
 beat_of moment w got (a ∷ live) again =
     let change = Beat w.number (named_attempts (a ∷ live)) in
@@ -49,7 +50,8 @@ beat_of moment w got (a ∷ live) again =
     (Ends (Reports (beat_report w got.jobs))) again
 
 -- A heartbeat after its get of the records. If there are no records, no attempt is live.
-abbrev pub beat_by : ℕ → LiveWorker → Option Records → (ℕ → Course (StepEnd Beaten)) → Course (StepEnd Beaten)
+abbrev pub beat_by : (moment : ℕ) (w : LiveWorker) (got : Option Records) (again : ℕ → Course (StepEnd Beaten))
+    → Course (StepEnd Beaten)
 beat_by moment w None again = Ends (Reports (beat_report w []))
 beat_by moment w (Some got) again = beat_of moment w got (live_attempts got.jobs w) again
 
@@ -65,8 +67,8 @@ heartbeat moment w =
 
 -- The release of these live attempts. The step puts the records if there is at least one, and then
 -- goes on with the released jobs.
-abbrev pub release_live : {A : Type 0} → LiveWorker → Records → List Attempt → (List ℕ → Course (StepEnd A))
-    → (ℕ → Course (StepEnd A)) → Course (StepEnd A)
+abbrev pub release_live : {A : Type 0} → (w : LiveWorker) (got : Records) (live : List Attempt)
+    (next : List ℕ → Course (StepEnd A)) (again : ℕ → Course (StepEnd A)) → Course (StepEnd A)
 release_live w got [] next again = next []
 release_live w got (a ∷ live) next again =
     let change = Release w.number (named_attempts (a ∷ live)) in
@@ -74,8 +76,8 @@ release_live w got (a ∷ live) next again =
 
 -- A release after its get of the records. It gives back the live ones of these attempts, and none
 -- if there are no records.
-abbrev pub release_by : {A : Type 0} → LiveWorker → List Attempt → Option Records → (List ℕ → Course (StepEnd A))
-    → (ℕ → Course (StepEnd A)) → Course (StepEnd A)
+abbrev pub release_by : {A : Type 0} → (w : LiveWorker) (attempts : List Attempt) (got : Option Records)
+    (next : List ℕ → Course (StepEnd A)) (again : ℕ → Course (StepEnd A)) → Course (StepEnd A)
 release_by w attempts None next again = next []
 release_by w attempts (Some got) next again =
     release_live w got (filter (is_live got.jobs w.number) attempts) next again

@@ -68,8 +68,8 @@ starts_claimed input w claimed stopped =
 
 -- The claim of these jobs. If there is at least one, the step puts the records, gets the manifest,
 -- and starts the jobs under it.
-abbrev pub claim_of : WorkerOptions → ℕ → LiveWorker → Records → Jobs → List ℕ → (ℕ → Course (StepEnd Claimed))
-    → Course (StepEnd Claimed)
+abbrev pub claim_of : (options : WorkerOptions) (moment : ℕ) (w : LiveWorker) (got : Records) (jobs : Jobs)
+    (stopped : List ℕ) (again : ℕ → Course (StepEnd Claimed)) → Course (StepEnd Claimed)
 claim_of options moment w got [] stopped again =
     Ends
     (Reports (record { begun = []; stopped = stopped; released = []; attempts = without_attempts stopped w.attempts }))
@@ -87,8 +87,8 @@ claim_of options moment w got (job ∷ jobs) stopped again =
     again
 
 -- A claim after its get of the records. If there are no records, it claims and stops nothing.
-abbrev pub claim_by : WorkerOptions → ℕ → LiveWorker → Option Records → (ℕ → Course (StepEnd Claimed))
-    → Course (StepEnd Claimed)
+abbrev pub claim_by : (options : WorkerOptions) (moment : ℕ) (w : LiveWorker) (got : Option Records)
+    (again : ℕ → Course (StepEnd Claimed)) → Course (StepEnd Claimed)
 claim_by options moment w None again =
     Ends (Reports (record { begun = []; stopped = []; released = []; attempts = w.attempts }))
 claim_by options moment w (Some got) again =

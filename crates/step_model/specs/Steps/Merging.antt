@@ -40,7 +40,7 @@ merged_trees local remote = map (λ s. merged_segment (segment_at s.prefix local
 
 -- A stored job of the second status replaces the local job of the first status. It does so for
 -- these pairs and no others.
-abbrev pub adopts : Status → Status → Bool
+abbrev pub adopts : (local remote : Status) → Bool
 adopts Submitted Compacted = true
 adopts Scheduled Scheduled = true
 adopts Scheduled Running = true
@@ -75,6 +75,6 @@ take_in remote None jobs = if is_taken_new remote.status then put_job remote job
 take_in remote (Some local) jobs = if adopts local.status remote.status then with_replaced remote jobs else jobs
 
 -- The local jobs after all stored jobs are merged in.
-abbrev pub merged_jobs : Jobs → Jobs → Jobs
+abbrev pub merged_jobs : (local remote : Jobs) → Jobs
 merged_jobs local [] = local
 merged_jobs local (remote ∷ jobs) = merged_jobs (take_in remote (job_with remote.id local) local) jobs

@@ -20,7 +20,8 @@ attempt_run w job number = if_numbered number (attempt_at job w.attempts)
 -- ---- an attempt that finished
 
 -- The end of an attempt that finished with these tables for each of its ranges.
-abbrev pub ends_run : ℕ → LiveWorker → List (List ℕ) → Option Attempt → Course (StepEnd FinishedJob)
+abbrev pub ends_run : (moment : ℕ) (w : LiveWorker) (result : List (List ℕ)) (a : Option Attempt)
+    → Course (StepEnd FinishedJob)
 ends_run moment w result None = Ends NotOwner
 ends_run moment w result (Some a) = end_job moment w a result
 

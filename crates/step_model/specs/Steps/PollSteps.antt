@@ -120,7 +120,7 @@ merged_into p jobs = record p { jobs = merged_jobs p.jobs jobs; freed = [] }
 -- A poll that may put the records at most `left` more times. It puts them only if it changed a job.
 -- After a refused put it gets the records again and merges them. `seen` is the version that the
 -- last refused put met.
-abbrev pub puts_polled : ℕ → PollState → Records → ℕ → ℕ → Course (StepEnd PollState)
+abbrev pub puts_polled : (epoch : ℕ) (p : PollState) (got : Records) (left seen : ℕ) → Course (StepEnd PollState)
 puts_polled epoch p got zero seen = Ends (GivesUp seen)
 puts_polled epoch p got (suc left) seen =
     if is_nothing (change_of p) then Ends (Reports p)

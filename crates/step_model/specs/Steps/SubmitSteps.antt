@@ -14,8 +14,8 @@ use Rattle.step_model.specs.Steps.ClaimSteps.{at_moment}
 
 -- The submission of these jobs, each with its id. If there is at least one, the step puts the
 -- records and reports the ids.
-abbrev pub submits_drawn : ℕ → Records → List (ℕ × JobSpec) → (ℕ → Course (StepEnd (List ℕ)))
-    → Course (StepEnd (List ℕ))
+abbrev pub submits_drawn : (moment : ℕ) (got : Records) (specs : List (ℕ × JobSpec))
+    (again : ℕ → Course (StepEnd (List ℕ))) → Course (StepEnd (List ℕ))
 submits_drawn moment got [] again = Ends (Reports [])
 submits_drawn moment got (p ∷ specs) again =
     let change = Submit (p ∷ specs) in
@@ -28,7 +28,8 @@ abbrev pub submits_specs : (moment : ℕ) (got : Records) (specs : List JobSpec)
 submits_specs moment got specs again = draws_jobs moment specs (λ drawn. submits_drawn moment got drawn again)
 
 -- A submission after its get of the records. If there are no records, it ends with NoRecords.
-abbrev pub submit_by : ℕ → List JobSpec → Option Records → (ℕ → Course (StepEnd (List ℕ))) → Course (StepEnd (List ℕ))
+abbrev pub submit_by : (moment : ℕ) (specs : List JobSpec) (got : Option Records)
+    (again : ℕ → Course (StepEnd (List ℕ))) → Course (StepEnd (List ℕ))
 submit_by moment specs None again = Ends NoRecords
 submit_by moment specs (Some got) again = submits_specs moment got specs again
 
@@ -42,15 +43,16 @@ submit moment specs = tries (submit_try moment specs) most_refused 0
 
 -- A submission of the specs that the scheduler generated. If the scheduler refuses the request, the
 -- step ends with that refusal.
-abbrev pub submits_generated : ℕ → Records → Generated → (ℕ → Course (StepEnd (List ℕ))) → Course (StepEnd (List ℕ))
+abbrev pub submits_generated : (moment : ℕ) (got : Records) (generated : Generated)
+    (again : ℕ → Course (StepEnd (List ℕ))) → Course (StepEnd (List ℕ))
 submits_generated moment got (Specs specs) again = submits_specs moment got specs again
 submits_generated moment got scheduler.Invalid again = Ends Invalid
 submits_generated moment got (scheduler.Declined message) again = Ends (Declined message)
 
 -- A request after its get of the records. It gets the manifest, and the scheduler generates specs
 -- by both. If there are no records, it ends with NoRecords.
-abbrev pub request_by : ℕ → Scheduler → Request → Option Records → (ℕ → Course (StepEnd (List ℕ)))
-    → Course (StepEnd (List ℕ))
+abbrev pub request_by : (moment : ℕ) (asked : Scheduler) (request : Request) (got : Option Records)
+    (again : ℕ → Course (StepEnd (List ℕ))) → Course (StepEnd (List ℕ))
 request_by moment asked request None again = Ends NoRecords
 request_by moment asked request (Some got) again =
     Calls (Plain GetManifest)
