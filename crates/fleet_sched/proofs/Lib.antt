@@ -7,3 +7,4 @@ pub mod Joined
 pub mod Passes
 pub mod SizedViews
 pub mod Proposals
+pub mod RunStretches
