@@ -1,6 +1,6 @@
 -- Rows that join a group, one after the other.
 use Rattle.std.proofs.Common.{◌≡◌, ◌∙◌, sym, refl, ap, subst, ℕ, ℤ, List, [], ◌∷◌, ◌++◌, Bool, true, false, Option, Some, None}
-use Rattle.std.specs.Prelude.{if◌then◌else◌}
+use Rattle.std.specs.Prelude.{Result, if◌then◌else◌}
 use Rattle.std.proofs.lemmas.List.{append_assoc, append-nil}
 use Rattle.row_model.specs.Rows.{Row, is_operand}
 use Rattle.row_model.specs.Fold.{Operator}
@@ -11,7 +11,7 @@ use Rattle.fleet_rows.specs.declared.errors.SlateDBError.{SlateDBError}
 use Rattle.fleet_fold.specs.declared.group.Group.{Group}
 use Rattle.fleet_fold.specs.declared.group.GroupRule.{GroupRule}
 use Rattle.fleet_fold.specs.Folded.{joining, same_group, merged_group}
-use Rattle.fleet_fold.specs.Groups.{Gathers, Joins, JoinsSoFar, Adds, RefusesAdd, RefusesGroup}
+use Rattle.fleet_fold.specs.Groups.{Gathers, Joins, JoinsSoFar, Adds, RefusesAdd, RefusesGroup, RefusesReading, with_next}
 
 module _ (rule : GroupRule) (first : Row) where
   joining_one : (q : Row) (rows : List Row) (joins operand : Bool) → same_group rule first.key first.expires q ≡ joins → is_operand q ≡ operand
@@ -83,9 +83,9 @@ module _ (merge : Operator) (rule : GroupRule) (first : Row) (old : IteratorStat
   refuses_read s new e same failed h = record { read = λ _. subst (λ (w : Bool). CanFail w e) same h; handed = λ _ _. failed; merged = λ alive. let clash = sym failed ∙ alive in absurd (cc clash) }
 
   -- The group refused to take an operand.
-  pub refuses_operand : (g : Group) (s new : IteratorState) (row : RowEntry) (e : SlateDBError) → s ≡ record new { rows = row_of row ∷ new.rows } → same_group rule g.key g.stamp (row_of row) ≡ true → is_operand (row_of row) ≡ true → new.failure ≡ None
-      → JoinsSoFar merge rule first old g s → RefusesAdd merge g (row_of row) e → RefusesGroup merge rule first old new e
-  refuses_operand g s new row e next takes operand alive h refuses =
+  pub refuses_operand : (call : IteratorState) (g : Group) (s new : IteratorState) (row : RowEntry) (e : SlateDBError) → s ≡ record new { rows = row_of row ∷ new.rows } → same_group rule g.key g.stamp (row_of row) ≡ true → is_operand (row_of row) ≡ true → new.failure ≡ None
+      → JoinsSoFar merge rule first old g s → RefusesAdd merge g (row_of row) e → RefusesReading (merged_group merge (first, joining rule first old.rows)) call new e
+  refuses_operand call g s new row e next takes operand alive h refuses =
       let q = row_of row in
       let later = joining rule first new.rows in
       let joined : joining rule first old.rows ≡ h.taken ++ q ∷ later =
@@ -95,3 +95,24 @@ module _ (merge : Operator) (rule : GroupRule) (first : Row) (old : IteratorStat
         handed = λ failed. absurd (failed alive);
         merged = λ _ other. ap (λ (rows : List Row). merged_group merge (first, rows)) joined ∙ refuses first h.taken later h.gathers other;
       }
+
+module _ (merge : Operator) (rule : GroupRule) (first : Row) where
+  -- A row that is tested against the first row is tested against its group.
+  group_test : (g : Group) (taken : List Row) (q : Row) (b : Bool) → Gathers merge first taken g → same_group rule first.key first.expires q ≡ b → same_group rule g.key g.stamp q ≡ b
+  group_test g taken q b h is = ap (λ (k : List ℕ). same_group rule k g.stamp q) h.key ∙ (ap (λ (s : Option ℤ). same_group rule first.key s q) h.stamp ∙ is)
+
+  module _ (second : RowEntry) (s : IteratorState) (g : Group) (gathers : Gathers merge first [] g) (takes : same_group rule first.key first.expires (row_of second) ≡ true) (operand : is_operand (row_of second) ≡ true) where
+    -- The row after the first one joins as the second operand.
+    pub joins_second : (more : Group) → Adds merge g (row_of second) more → JoinsSoFar merge rule first (with_next second s) more s
+    joins_second more adds =
+        joins_operand merge rule first (with_next second s) g more (with_next second s) s second refl (group_test g [] (row_of second) true gathers takes) operand adds
+        (joins_nothing merge rule first (with_next second s) g gathers)
+
+    pub refuses_second : (e : SlateDBError) → s.failure ≡ None → RefusesAdd merge g (row_of second) e → RefusesGroup merge rule first (with_next second s) s e
+    refuses_second e alive refuses =
+        refuses_operand merge rule first (with_next second s) (with_next second s) g (with_next second s) s second e refl (group_test g [] (row_of second) true gathers takes) operand alive
+        (joins_nothing merge rule first (with_next second s) g gathers) refuses
+
+-- What refuses a reading refuses it also if it begins with one row more.
+pub refuses_from : {A : Type 0} (answer : Result A SlateDBError) (row : RowEntry) (s new : IteratorState) (e : SlateDBError) → RefusesReading answer s new e → RefusesReading answer (with_next row s) new e
+refuses_from answer row s new e h = record { read = h.read; handed = h.handed; merged = h.merged }

@@ -24,10 +24,12 @@ pub mod Joining
 pub mod KeptNexts
 pub mod KeptRows
 pub mod Keys
+pub mod LoneGroups
 pub mod LoneRows
 pub mod PassedKeys
 pub mod PassedRows
 pub mod Plain
+pub mod ReadNexts
 pub mod ReadRows
 pub mod Rising
 pub mod Seeks

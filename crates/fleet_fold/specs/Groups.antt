@@ -155,7 +155,8 @@ IsNoOperand (Some row) = is_operand (row_of row) ≡ false
 
 pub record TakesRows (merge : Operator) (rule : GroupRule) (g : Group) (old : IteratorState)
     (base : Option RowEntry) (filled : Group) (later : Option RowEntry) (new : IteratorState) : Type 0 where
-  pub group : (first : Row) → Gathers merge first [] g → Joins merge rule first old base filled later new
+  pub group : (first : Row) (before : IteratorState) → JoinsSoFar merge rule first before g old
+      → Joins merge rule first before base filled later new
   pub plain : IsNoOperand base
   pub readable : IsReadable new
   pub whole : new.whole ≡ old.whole
@@ -179,7 +180,12 @@ RefusesGroup merge rule first old new e =
 
 abbrev pub RefusesRows : (merge : Operator) (rule : GroupRule) (g : Group) (old new : IteratorState) (e : SlateDBError)
     → Type 0
-RefusesRows merge rule g old new e = (first : Row) → Gathers merge first [] g → RefusesGroup merge rule first old new e
+RefusesRows merge rule g old new e = (first : Row) (before : IteratorState) → JoinsSoFar merge rule first before g old
+    → RefusesReading (merged_group merge (first, joining rule first before.rows)) old new e
+
+-- The state of an iterator before it gave a row.
+abbrev pub with_next : RowEntry → IteratorState → IteratorState
+with_next row inner = record inner { rows = row_of row ∷ inner.rows }
 
 -- The group that a row opens becomes row `r`.
 pub record FoldsGroup (merge : Operator) (rule : GroupRule) (first : Row) (old : IteratorState) (r : Row)

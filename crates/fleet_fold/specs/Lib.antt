@@ -8,4 +8,5 @@ pub mod Merging
 pub mod State
 pub mod JobState
 pub mod Operator
+pub mod Reading
 pub mod Required

@@ -38,7 +38,7 @@ pub(crate) fn opens(rule: GroupRule, row: &RowEntry) -> bool
     is_operand(row) && within
 }
 
-fn same_stamp(stamp: Option<i64>, other: Option<i64>) -> bool
+pub(crate) fn same_stamp(stamp: Option<i64>, other: Option<i64>) -> bool
     ensures { result ≡ same_stamp stamp other }
 {
     match (stamp, other) {
@@ -48,7 +48,7 @@ fn same_stamp(stamp: Option<i64>, other: Option<i64>) -> bool
     }
 }
 
-fn greater_stamp(stamp: Option<i64>, other: Option<i64>) -> Option<i64>
+pub(crate) fn greater_stamp(stamp: Option<i64>, other: Option<i64>) -> Option<i64>
     ensures { result ≡ greater_stamp stamp other }
 {
     match (stamp, other) {
@@ -58,7 +58,7 @@ fn greater_stamp(stamp: Option<i64>, other: Option<i64>) -> Option<i64>
     }
 }
 
-fn lesser_stamp(stamp: Option<i64>, other: Option<i64>) -> Option<i64>
+pub(crate) fn lesser_stamp(stamp: Option<i64>, other: Option<i64>) -> Option<i64>
     ensures { result ≡ lesser_stamp stamp other }
 {
     match (stamp, other) {
@@ -286,8 +286,8 @@ impl Group {
         answer.ok()
     }
 
-    // Makes the row of a group without a base, batch by batch.
-    fn close_in_batches<B: BatchMerger>(
+    /// Makes the row of a group without a base, batch by batch.
+    pub(crate) fn close_in_batches<B: BatchMerger>(
         self,
         alloc: Global,
         operator: &B,
@@ -370,5 +370,26 @@ impl Group {
             }
             None => Ok(group.close_over_in_batches(alloc, operator, base)?),
         }
+    }
+
+    /// Makes the row of a group over its base. If the base is late, the operands go to the operator
+    /// in one call first. Otherwise this was tried, and they go to it batch by batch.
+    pub(crate) fn close_over_refused<B: BatchMerger>(
+        self,
+        alloc: Global,
+        operator: &B,
+        base: RowEntry,
+        is_late: bool,
+    ) -> Result<RowEntry, SlateDBError>
+        requires base { is_operand (row_of base) ≡ false }
+        ensures ok { IfOk result (λ row.
+            Closes (B.fold operator.now) self (row_of base ∷ []) (row_of row)) }
+        ensures err { IfErr result
+            (RefusesClose (B.fold operator.now) self (row_of base ∷ [])) }
+    {
+        if is_late {
+            return self.close_over(alloc, operator, base);
+        }
+        self.close_over_in_batches(alloc, operator, base)
     }
 }

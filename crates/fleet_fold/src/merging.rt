@@ -1,20 +1,20 @@
 //! Iterators that merge operands.
 
-ghost use Rattle.std.specs.Prelude.{◌≡◌, ◌≢◌, true, None, OnOk, IfErr};
+ghost use Rattle.std.specs.Prelude.{◌≡◌, ◌≢◌, true, false, None, OnOk, IfOk, IfErr};
 ghost use Rattle.fleet_iter.specs.Iteration.{Inits, Nexts, Seeks, HandsOn, AreRising};
 ghost use Rattle.fleet_fold.specs.Merging.{merging, state_of, ReadsGroups, IsSound, RisesIfRefused, Sought, HandsOnOrRefuses};
-ghost use Rattle.fleet_iter.specs.Merge.{head_passes};
-ghost use Rattle.fleet_fold.specs.Folded.{opens};
 ghost use Rattle.fleet_fold.specs.Groups.{RefusesNext};
-ghost use Rattle.fleet_fold.specs.Retention.{from_ahead};
+ghost use Rattle.fleet_fold.specs.Reading.{is_passed, MakesNext};
+ghost use Rattle.fleet_fold.specs.Retention.{IsReadable, from_ahead};
 
-use crate::fold::fold_next;
+use crate::fold::fold_opened;
 use crate::group::{GroupRule, opens};
 use crate::retention::drop_if_below;
 use crate::{BatchMerger, MergeOperator};
 use fleet_iter::{Failure, RowEntryIterator, RowSource, TrackedRowEntryIterator};
 use fleet_rows::{RowEntry, SlateDBError};
 use std::alloc::Global;
+use std::mem;
 
 /// An iterator that merges the operands of an inner iterator's rows: each group of operands becomes
 /// one row.
@@ -80,22 +80,85 @@ impl<'o, O: MergeOperator, T: RowEntryIterator> MergeOperatorIterator<'o, O, T> 
     }
 }
 
-// Whether there is a row that opens a group.
-fn next_opens(rule: GroupRule, row: &Option<RowEntry>) -> bool
-    ensures { result ≡ head_passes (opens rule) row.now }
+// Whether a row that was read goes on as it is, or no row is left.
+#[inline]
+fn is_passed(rule: &GroupRule, read: &Result<Option<RowEntry>, SlateDBError>) -> bool
+    ensures { result ≡ is_passed rule.now read.now }
 {
-    match row {
-        Some(row) => opens(rule, row),
-        None => false,
+    match read {
+        Ok(Some(row)) => !opens(*rule, row),
+        Ok(None) => true,
+        Err(_) => false,
     }
+}
+
+// Makes the row that was read the row of the group that it opens. If no row could be read, this
+// fails the iterator.
+#[inline(never)]
+fn fold_read<B: BatchMerger, T: RowSource>(
+    alloc: Global,
+    operator: &B,
+    rule: &GroupRule,
+    inner: &mut T,
+    ahead: &mut Option<RowEntry>,
+    failure: &mut Failure,
+    read: &mut Result<Option<RowEntry>, SlateDBError>,
+)
+    requires sound { T.sound inner.old }
+    requires alive { failure.old ≡ None }
+    requires none { ahead.old ≡ None }
+    requires readable { IfOk read.old (λ _. IsReadable (T.state inner.old)) }
+    requires opened { is_passed rule.now read.old ≡ false }
+    ensures made { MakesNext (B.fold operator.now) rule.now (T.state inner.old) read.old
+        failure.new ahead.new (T.state inner.new) read.new }
+    ensures sound { T.sound inner.new }
+{
+    match read {
+        Ok(Some(first)) => {
+            match fold_opened(alloc, operator, *rule, inner, ahead, first) {
+                Ok(()) => (),
+                Err(error) => *read = Err(failure.fail(error)),
+            }
+        }
+        Ok(None) => (),
+        Err(error) => {
+            let cause = mem::replace(error, SlateDBError::Memory);
+            *read = Err(failure.fail(cause));
+        }
+    }
+}
+
+// Makes the row that was read the next row of the iterator.
+#[inline]
+fn make_next<B: BatchMerger, T: RowSource>(
+    alloc: Global,
+    operator: &B,
+    rule: &GroupRule,
+    inner: &mut T,
+    ahead: &mut Option<RowEntry>,
+    failure: &mut Failure,
+    read: &mut Result<Option<RowEntry>, SlateDBError>,
+)
+    requires sound { T.sound inner.old }
+    requires alive { failure.old ≡ None }
+    requires none { ahead.old ≡ None }
+    requires readable { IfOk read.old (λ _. IsReadable (T.state inner.old)) }
+    ensures made { MakesNext (B.fold operator.now) rule.now (T.state inner.old) read.old
+        failure.new ahead.new (T.state inner.new) read.new }
+    ensures sound { T.sound inner.new }
+{
+    if is_passed(rule, read) {
+        return;
+    }
+    fold_read(alloc, operator, rule, inner, ahead, failure, read);
 }
 
 // The next row of an iterator with these parts, of which a row was read ahead.
 #[inline(never)]
-fn next_folded<B: BatchMerger, T: RowSource>(
+fn next_ahead<B: BatchMerger, T: RowSource>(
     alloc: Global,
     operator: &B,
-    rule: GroupRule,
+    rule: &GroupRule,
     inner: &mut T,
     ahead: &mut Option<RowEntry>,
     failure: &mut Failure,
@@ -104,24 +167,20 @@ fn next_folded<B: BatchMerger, T: RowSource>(
     requires alive { failure.old ≡ None }
     requires some { ahead.old ≢ None }
     requires reads { ReadsGroups
-        (B.fold operator.now) rule failure.old ahead.old (T.state inner.old) }
+        (B.fold operator.now) rule.now failure.old ahead.old (T.state inner.old) }
     ensures next { Nexts
-        (merging failure.old (B.fold operator.now) rule ahead.old (T.state inner.old))
-        (merging failure.new (B.fold operator.now) rule ahead.new (T.state inner.new)) result }
+        (merging failure.old (B.fold operator.now) rule.now ahead.old (T.state inner.old))
+        (merging failure.new (B.fold operator.now) rule.now ahead.new (T.state inner.new)) result }
     ensures handed { IfErr result (λ e. failure.old ≡ None → (T.state inner.old).initialised ≡ true
-        → RefusesNext (B.fold operator.now) rule (from_ahead ahead.old (T.state inner.old))
+        → RefusesNext (B.fold operator.now) rule.now (from_ahead ahead.old (T.state inner.old))
         (T.state inner.old) (T.state inner.new) e) }
     ensures reads { ReadsGroups
-        (B.fold operator.now) rule failure.new ahead.new (T.state inner.new) }
+        (B.fold operator.now) rule.now failure.new ahead.new (T.state inner.new) }
     ensures sound { T.sound inner.new }
 {
-    let Some(row) = ahead.take() else {
-        unreachable!();
-    };
-    match fold_next(alloc, operator, rule, inner, ahead, row) {
-        Ok(row) => Ok(Some(row)),
-        Err(error) => Err(failure.fail(error)),
-    }
+    let mut read = Ok(ahead.take());
+    make_next(alloc, operator, rule, inner, ahead, failure, &mut read);
+    read
 }
 
 // The next row of an iterator with these parts. A row that opens no group is handed on as it is.
@@ -129,38 +188,31 @@ fn next_folded<B: BatchMerger, T: RowSource>(
 fn next_given<B: BatchMerger, T: RowSource>(
     alloc: Global,
     operator: &B,
-    rule: GroupRule,
+    rule: &GroupRule,
     inner: &mut T,
     ahead: &mut Option<RowEntry>,
     failure: &mut Failure,
 ) -> Result<Option<RowEntry>, SlateDBError>
     requires sound { T.sound inner.old }
     requires reads { ReadsGroups
-        (B.fold operator.now) rule failure.old ahead.old (T.state inner.old) }
+        (B.fold operator.now) rule.now failure.old ahead.old (T.state inner.old) }
     ensures next { Nexts
-        (merging failure.old (B.fold operator.now) rule ahead.old (T.state inner.old))
-        (merging failure.new (B.fold operator.now) rule ahead.new (T.state inner.new)) result }
+        (merging failure.old (B.fold operator.now) rule.now ahead.old (T.state inner.old))
+        (merging failure.new (B.fold operator.now) rule.now ahead.new (T.state inner.new)) result }
     ensures handed { IfErr result (λ e. failure.old ≡ None → (T.state inner.old).initialised ≡ true
-        → RefusesNext (B.fold operator.now) rule (from_ahead ahead.old (T.state inner.old))
+        → RefusesNext (B.fold operator.now) rule.now (from_ahead ahead.old (T.state inner.old))
         (T.state inner.old) (T.state inner.new) e) }
     ensures reads { ReadsGroups
-        (B.fold operator.now) rule failure.new ahead.new (T.state inner.new) }
+        (B.fold operator.now) rule.now failure.new ahead.new (T.state inner.new) }
     ensures sound { T.sound inner.new }
 {
     failure.check()?;
     if ahead.is_some() {
-        return next_folded(alloc, operator, rule, inner, ahead, failure);
+        return next_ahead(alloc, operator, rule, inner, ahead, failure);
     }
-    match inner.next_row(alloc) {
-        Ok(row) => {
-            if !next_opens(rule, &row) {
-                return Ok(row);
-            }
-            *ahead = row;
-            next_folded(alloc, operator, rule, inner, ahead, failure)
-        }
-        Err(error) => Err(failure.fail(error)),
-    }
+    let mut read = inner.next_row(alloc);
+    make_next(alloc, operator, rule, inner, ahead, failure, &mut read);
+    read
 }
 
 impl<O: MergeOperator, T: RowEntryIterator> RowEntryIterator for MergeOperatorIterator<'_, O, T> {
@@ -194,11 +246,10 @@ impl<O: MergeOperator, T: RowEntryIterator> RowEntryIterator for MergeOperatorIt
         ensures handed { HandsOnOrRefuses O.settings O.merged T.state self.old self.new result }
         ensures sound { IsSound O.settings O.merged T.sound T.state self.new }
     {
-        let rule = self.rule;
         next_given(
             alloc,
             self.operator,
-            rule,
+            &self.rule,
             &mut self.delegate,
             &mut self.ahead,
             &mut self.failure,

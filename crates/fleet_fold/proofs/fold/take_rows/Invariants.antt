@@ -1,7 +1,8 @@
-use Rattle.std.proofs.Common.{◌≡◌, None, [], length}
+use Rattle.std.proofs.Common.{◌≡◌, None, length}
 use Rattle.row_model.specs.Rows.{Row}
 use Rattle.fleet_fold.specs.Retention.{IsReadable}
-use Rattle.fleet_fold.specs.Groups.{Gathers, JoinsSoFar}
+use Rattle.fleet_iter.specs.Iteration.{IteratorState}
+use Rattle.fleet_fold.specs.Groups.{JoinsSoFar}
 use Rattle.fleet_fold.proofs.fold.take_rows.Given as goal
 
 -- The group has taken all rows that were read, and no row is read ahead.
@@ -16,7 +17,7 @@ invariant-rows g l =
       whole : s.whole ≡ old.whole;
       steady : s.steady ≡ old.steady;
       none : l.ahead ≡ None;
-      so_far : (first : Row) → Gathers merge first [] l.fn.group → JoinsSoFar merge l.rule first old l.group s;
+      so_far : (first : Row) (before : IteratorState) → JoinsSoFar merge l.rule first before l.fn.group old → JoinsSoFar merge l.rule first before l.group s;
     }
 
 abbrev pub decreases-rows : goal.decreases-rows
