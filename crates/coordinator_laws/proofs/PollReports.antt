@@ -89,7 +89,7 @@ commit_done who shown at p others lawful steps after kept same fits = record {
 
 -- ---- ends and draws
 
-pub unfenced : (who : Caller) (epoch stored : ℕ) (next : Course (StepEnd PollState)) (world last : World) (p : PollState) → Going who (unless_fenced epoch stored next) world last (Reports p) → Going who next world last (Reports p)
+unfenced : (who : Caller) (epoch stored : ℕ) (next : Course (StepEnd PollState)) (world last : World) (p : PollState) → Going who (unless_fenced epoch stored next) world last (Reports p) → Going who next world last (Reports p)
 unfenced who epoch stored next world last p going = by (nat_lt epoch stored) going
   where
     by : (b : Bool) → Going who (cond b (Ends (Fenced stored)) next) world last (Reports p) → Going who next world last (Reports p)
