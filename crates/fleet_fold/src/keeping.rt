@@ -8,15 +8,15 @@ ghost use Rattle.fleet_fold.specs.Retention.{is_dropped, ends_walk};
 ghost use Rattle.fleet_rows.specs.Settings.{settings_of};
 
 use bytes::Bytes;
-use fleet_rows::{RowEntry, Settings, ValueDeletable, key_order};
+use fleet_rows::{RowEntry, Settings, ValueDeletable, same_key};
 use std::alloc::{AllocError, Global};
 
-/// Whether two keys are the same. It compares them by words.
+/// Whether two keys are the same.
 #[inline]
 pub(crate) fn are_same(key: &Bytes, other: &Bytes) -> bool
     ensures { result ≡ bytes_eq key.now other.now }
 {
-    key_order(key.as_slice(), other.as_slice()).is_eq()
+    same_key(key.as_slice(), other.as_slice())
 }
 
 fn is_expired(row: &RowEntry, tick: i64) -> bool

@@ -1,3 +1,4 @@
 pub mod Ordered
 pub mod Tested
 pub mod Words
+mod SameKeys

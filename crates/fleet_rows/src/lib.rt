@@ -16,7 +16,7 @@ pub use copies::Copies;
 pub use errors::{CompactionFilterError, MergeOperatorError, SlateDBError};
 pub use key_value::KeyValue;
 pub use list::{AttemptList, IdList, JobList, ListOf, NamesList, PlaceList, RuleList};
-pub use order::{are_in_bounds, are_strictly_ordered, key_order, row_order};
+pub use order::{are_in_bounds, are_strictly_ordered, key_order, row_order, same_key};
 pub use row::{RowEntry, ValueDeletable};
 pub use settings::Settings;
 pub use text::Text;

@@ -1,6 +1,6 @@
 //! The order of rows, and tests of lists of rows.
 
-ghost use Rattle.std.specs.Prelude.{◌≡◌, ◌↔◌, IsTrue};
+ghost use Rattle.std.specs.Prelude.{◌≡◌, ◌↔◌, IsTrue, bytes_eq};
 ghost use Rattle.std.specs.List.{AllByRecursion};
 ghost use Rattle.row_model.specs.Bounds.{IsInBounds};
 ghost use Rattle.row_model.specs.Rows.{are_ordered, key_cmp, row_cmp, IsStrictlyOrdered};
@@ -29,6 +29,30 @@ pub fn key_order(key: &[u8], other: &[u8]) -> Ordering
         other_rest = &other_rest[8..];
     }
     rest.cmp(other_rest)
+}
+
+/// Whether two keys are the same. It compares eight bytes at once, and is cheaper than their order.
+#[inline]
+pub fn same_key(key: &[u8], other: &[u8]) -> bool
+    ensures { result ≡ bytes_eq key.now other.now }
+{
+    let mut rest = key;
+    let mut other_rest = other;
+    'words: while let Some(bytes) = rest.first_chunk::<8>()
+        && let Some(other_bytes) = other_rest.first_chunk::<8>()
+    {
+        let word = u64::from_be_bytes(*bytes);
+        let other_word = u64::from_be_bytes(*other_bytes);
+        if word != other_word {
+            return false;
+        }
+        rest = &rest[8..];
+        other_rest = &other_rest[8..];
+    }
+    if rest.is_empty() && other_rest.is_empty() {
+        return true;
+    }
+    rest.cmp(other_rest).is_eq()
 }
 
 /// Compares rows as tables order them: keys rise, and within a key sequences fall.

@@ -6,4 +6,3 @@ mod Steps
 mod KeyTaken
 mod Calls
 mod Ranged
-mod SameKeys

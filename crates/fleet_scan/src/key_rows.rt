@@ -11,7 +11,7 @@ ghost use Rattle.fleet_scan.specs.KeyRows.{Adds, IsBegun, Takes, base_of, ground
 use crate::KeyAnswer;
 use bytes::Bytes;
 use fleet_fold::BatchMerger;
-use fleet_rows::{MergeOperatorError, RowEntry, SlateDBError, ValueDeletable};
+use fleet_rows::{MergeOperatorError, RowEntry, SlateDBError, ValueDeletable, same_key};
 use std::alloc::{AllocError, Global};
 
 /// What a read asks for, beside the key. It sees the rows with at most this sequence, and rows are
@@ -69,30 +69,6 @@ fn is_reached(stamp: Option<i64>, moment: i64) -> bool
         Some(stamp) => stamp <= moment,
         None => false,
     }
-}
-
-// Whether two keys are the same. It compares eight bytes at once.
-#[inline]
-fn are_same(key: &[u8], other: &[u8]) -> bool
-    ensures { result ≡ bytes_eq key.now other.now }
-{
-    let mut rest = key;
-    let mut other_rest = other;
-    'words: while let Some(bytes) = rest.first_chunk::<8>()
-        && let Some(other_bytes) = other_rest.first_chunk::<8>()
-    {
-        let word = u64::from_be_bytes(*bytes);
-        let other_word = u64::from_be_bytes(*other_bytes);
-        if word != other_word {
-            return false;
-        }
-        rest = &rest[8..];
-        other_rest = &other_rest[8..];
-    }
-    if rest.is_empty() && other_rest.is_empty() {
-        return true;
-    }
-    rest == other_rest
 }
 
 /// What the rows of a key that were taken so far leave for a read.
@@ -153,7 +129,7 @@ impl KeyRows {
     pub(crate) fn has(&self, row: &RowEntry) -> bool
         ensures { result ≡ bytes_eq self.now.key row.now.key }
     {
-        are_same(self.key.as_slice(), row.key.as_slice())
+        same_key(self.key.as_slice(), row.key.as_slice())
     }
 
     /// Takes a row of the key that is older than all taken before.

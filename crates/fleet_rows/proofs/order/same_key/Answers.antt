@@ -1,7 +1,8 @@
-use Rattle.std.proofs.Common.{refl, sym, ◌∙◌}
+use Rattle.std.proofs.Common.{refl, sym, ap, ◌∙◌}
+use Rattle.std.specs.Ordering.{is_eq}
 use Rattle.fleet_rows.proofs.Words.{words_left}
-use Rattle.fleet_scan.proofs.SameKeys.{words_differ, rest_decides, nothing_left}
-use Rattle.fleet_scan.proofs.key_rows.are_same.Goals as goal
+use Rattle.fleet_rows.proofs.SameKeys.{words_differ, rest_decides, nothing_left}
+use Rattle.fleet_rows.proofs.order.same_key.Goals as goal
 
 pub words-init : goal.words-init
 words-init c = record { small = λ i. (c.type_inv.key i).fits; low = λ i. (c.type_inv.other i).fits; same = refl }
@@ -25,4 +26,6 @@ returns-then-is_empty-2 c =
     nothing_left c.args.key.now c.args.other.now c.words.rest.now c.words.other_rest.now c.words.invariant (sym c.is_empty.ensures ∙ c.if-is_empty.true) (sym c.is_empty-then-is_empty.ensures ∙ c.if-is_empty-2.true)
 
 pub returns : goal.returns
-returns c = c.eq.ensures ∙ rest_decides c.args.key.now c.args.other.now c.words.rest.now c.words.other_rest.now c.words.invariant
+returns c =
+    c.is_eq.ensures
+    ∙ (ap is_eq c.cmp.ensures ∙ rest_decides c.args.key.now c.args.other.now c.words.rest.now c.words.other_rest.now c.words.invariant)

@@ -1,6 +1,6 @@
 use Rattle.std.proofs.Common.{length}
 use Rattle.fleet_rows.proofs.Words.{AreLeft}
-use Rattle.fleet_scan.proofs.key_rows.are_same.Given as goal
+use Rattle.fleet_rows.proofs.order.same_key.Given as goal
 
 abbrev pub invariant-words : goal.invariant-words
 invariant-words l = AreLeft l.key l.other l.rest l.other_rest

@@ -4,7 +4,7 @@ use Rattle.std.specs.Prelude.{bytes_eq, ◌==◌}
 use Rattle.std.specs.Int.{w64, from_be_bytes}
 use Rattle.std.specs.Ordering.{nat_cmp, is_eq}
 use Rattle.std.specs.Cmp.{ranked}
-use Rattle.std.specs.Cmp.Lexicographic.{texts_ties}
+use Rattle.std.specs.Cmp.Lexicographic.{slice_cmp, texts_ties}
 use Rattle.std.specs.declared.cmp.Ordering.{Ordering}
 use Rattle.std.specs.declared.cmp.Ordering.TheVariants.{Less, Equal, Greater}
 use Rattle.std.proofs.lemmas.Bool.Decides.{Decides-eqb}
@@ -25,11 +25,11 @@ words_differ key other xs ys us vs x y left long far first next word other_word 
     texts_ties key other
     ∙ (ap is_eq (sym (words_answer key other xs ys us vs x y (nat_cmp x y) left long far first next word other_word apart refl)) ∙ unequal x y apart)
 
--- Keys are the same if what is left of them is.
-pub rest_decides : (key other xs ys : List ℕ) → AreLeft key other xs ys → bytes_eq xs ys ≡ bytes_eq key other
-rest_decides key other xs ys left = texts_ties xs ys ∙ (ap is_eq (sym left.same) ∙ sym (texts_ties key other))
+-- Keys are the same if what is left of them is at a tie.
+pub rest_decides : (key other xs ys : List ℕ) → AreLeft key other xs ys → is_eq (slice_cmp nat_cmp xs ys) ≡ bytes_eq key other
+rest_decides key other xs ys left = ap is_eq (sym left.same) ∙ sym (texts_ties key other)
 
-both_empty : (xs ys : List ℕ) → length xs ≡ 0 → length ys ≡ 0 → bytes_eq xs ys ≡ true
+both_empty : (xs ys : List ℕ) → length xs ≡ 0 → length ys ≡ 0 → is_eq (slice_cmp nat_cmp xs ys) ≡ true
 both_empty [] [] none other = refl
 both_empty [] (y ∷ ys) none other = absurd (omega (arith, other))
 both_empty (x ∷ xs) ys none other = absurd (omega (arith, none))
