@@ -1,5 +1,5 @@
 -- Keys compared by words, for whether they are the same.
-use Rattle.std.proofs.Common.{◌≡◌, ◌≢◌, ◌∙◌, refl, sym, ap, ℕ, ◌≤◌, List, [], ◌∷◌, length, take, false, true, arith}
+use Rattle.std.proofs.Common.{◌≡◌, ◌≢◌, ◌∙◌, refl, sym, ap, ℕ, ◌≤◌, List, length, take, false, true}
 use Rattle.std.specs.Prelude.{bytes_eq, ◌==◌}
 use Rattle.std.specs.Int.{w64, from_be_bytes}
 use Rattle.std.specs.Ordering.{nat_cmp, is_eq}
@@ -7,8 +7,7 @@ use Rattle.std.specs.Cmp.{ranked}
 use Rattle.std.specs.Cmp.Lexicographic.{slice_cmp, texts_ties}
 use Rattle.std.specs.declared.cmp.Ordering.{Ordering}
 use Rattle.std.specs.declared.cmp.Ordering.TheVariants.{Less, Equal, Greater}
-use Rattle.std.proofs.lemmas.Bool.Decides.{Decides-eqb}
-use Rattle.fleet_rows.proofs.Words.{AreLeft, words_answer}
+use Rattle.fleet_rows.proofs.Words.{AreLeft, words_answer, words_over}
 
 unequal : (x y : ℕ) → x ≢ y → is_eq (nat_cmp x y) ≡ false
 unequal x y far = by (nat_cmp x y) refl
@@ -29,12 +28,6 @@ words_differ key other xs ys us vs x y left long far first next word other_word 
 pub rest_decides : (key other xs ys : List ℕ) → AreLeft key other xs ys → is_eq (slice_cmp nat_cmp xs ys) ≡ bytes_eq key other
 rest_decides key other xs ys left = ap is_eq (sym left.same) ∙ sym (texts_ties key other)
 
-both_empty : (xs ys : List ℕ) → length xs ≡ 0 → length ys ≡ 0 → is_eq (slice_cmp nat_cmp xs ys) ≡ true
-both_empty [] [] none other = refl
-both_empty [] (y ∷ ys) none other = absurd (omega (arith, other))
-both_empty (x ∷ xs) ys none other = absurd (omega (arith, none))
-
 -- Keys are the same if nothing is left of them.
 pub nothing_left : (key other xs ys : List ℕ) → AreLeft key other xs ys → (length xs == 0) ≡ true → (length ys == 0) ≡ true → true ≡ bytes_eq key other
-nothing_left key other xs ys left none empty =
-    sym (both_empty xs ys ((Decides-eqb (length xs) 0).0 none) ((Decides-eqb (length ys) 0).0 empty)) ∙ rest_decides key other xs ys left
+nothing_left key other xs ys left none empty = sym (texts_ties key other ∙ ap is_eq (sym (words_over key other xs ys left none empty)))

@@ -1,6 +1,8 @@
 -- Keys compared by words of eight bytes.
-use Rattle.std.proofs.Common.{◌≡◌, ◌≢◌, ◌∙◌, refl, sym, ap, subst, ℕ, ◌+◌, ◌-◌, ◌*◌, ◌<◌, ◌≤◌, List, [], ◌∷◌, ◌++◌, zero, length, get_or, get_or-drop, take, drop, suc, arith, take-append-drop, length-take-le}
+use Rattle.std.proofs.Common.{◌≡◌, ◌≢◌, ◌∙◌, refl, sym, ap, subst, ℕ, ◌+◌, ◌-◌, ◌*◌, ◌<◌, ◌≤◌, List, [], ◌∷◌, ◌++◌, zero, length, get_or, get_or-drop, take, drop, suc, arith, take-append-drop, length-take-le, true}
+use Rattle.std.proofs.lemmas.Bool.Decides.{Decides-eqb}
 use Rattle.std.proofs.lemmas.List.{take_rest}
+use Rattle.std.specs.Prelude.{◌==◌}
 use Rattle.std.specs.Int.{w64, from_be_bytes}
 use Rattle.std.specs.Slice.Scan.{big_endian}
 use Rattle.std.specs.Ordering.{nat_cmp, ordering_then}
@@ -122,3 +124,13 @@ pub words_answer : (key other xs ys us vs : List ℕ) (x y : ℕ) (answer : Orde
 words_answer key other xs ys us vs x y answer left long far first next word other_word apart is =
     is ∙ (words_apart x y (slice_cmp nat_cmp (drop 8 xs) (drop 8 ys)) apart
     ∙ (sym (words_decide xs ys us vs x y left.small left.low long far first next word other_word) ∙ sym left.same))
+
+both_empty : (xs ys : List ℕ) → length xs ≡ 0 → length ys ≡ 0 → Equal ≡ slice_cmp nat_cmp xs ys
+both_empty [] [] none other = refl
+both_empty [] (y ∷ ys) none other = absurd (omega (arith, other))
+both_empty (x ∷ xs) ys none other = absurd (omega (arith, none))
+
+-- Keys are equal if nothing is left of them.
+pub words_over : (key other xs ys : List ℕ) → AreLeft key other xs ys → (length xs == 0) ≡ true → (length ys == 0) ≡ true → Equal ≡ slice_cmp nat_cmp key other
+words_over key other xs ys left none empty =
+    both_empty xs ys ((Decides-eqb (length xs) 0).0 none) ((Decides-eqb (length ys) 0).0 empty) ∙ sym left.same

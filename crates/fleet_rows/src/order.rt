@@ -28,6 +28,9 @@ pub fn key_order(key: &[u8], other: &[u8]) -> Ordering
         rest = &rest[8..];
         other_rest = &other_rest[8..];
     }
+    if rest.is_empty() && other_rest.is_empty() {
+        return Ordering::Equal;
+    }
     rest.cmp(other_rest)
 }
 

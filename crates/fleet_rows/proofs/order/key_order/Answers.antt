@@ -1,5 +1,5 @@
-use Rattle.std.proofs.Common.{refl}
-use Rattle.fleet_rows.proofs.Words.{words_left, words_answer}
+use Rattle.std.proofs.Common.{refl, sym, ◌∙◌}
+use Rattle.fleet_rows.proofs.Words.{words_left, words_answer, words_over}
 use Rattle.fleet_rows.proofs.order.key_order.Goals as goal
 
 pub words-init : goal.words-init
@@ -18,3 +18,7 @@ returns-then-word-other_word c =
     let two = c.in-Some-first_chunk.ensures.cases in
     words_answer c.args.key.now c.args.other.now c.words.rest.now c.words.other_rest.now c.in-Some.bytes.now c.in-Some-first_chunk.other_bytes.now _ _ c.cmp.result c.words.invariant one.enough two.enough one.same two.same
     c.from_be_bytes-word.ensures c.from_be_bytes-other_word.ensures c.if-word-other_word.true c.cmp.ensures
+
+pub returns-then-is_empty-2 : goal.returns-then-is_empty-2
+returns-then-is_empty-2 c =
+    words_over c.args.key.now c.args.other.now c.words.rest.now c.words.other_rest.now c.words.invariant (sym c.is_empty.ensures ∙ c.if-is_empty.true) (sym c.is_empty-then-is_empty.ensures ∙ c.if-is_empty-2.true)
