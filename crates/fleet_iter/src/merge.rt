@@ -25,8 +25,17 @@ pub(crate) fn compare(order: IterationOrder, row: &RowEntry, other: &RowEntry) -
 {
     match order {
         IterationOrder::Ascending => row_order(row, other),
-        IterationOrder::Descending => other.key.cmp(&row.key).then(other.seq.cmp(&row.seq)),
+        IterationOrder::Descending => falling_order(row, other),
     }
+}
+
+// Compares rows by falling key, and rows of one key by falling sequence. It stays out of line, so that
+// ascending merges need no room for it.
+#[inline(never)]
+fn falling_order(row: &RowEntry, other: &RowEntry) -> Ordering
+    ensures { result ≡ cmp_in in_order.Descending (row_of row.now) (row_of other.now) }
+{
+    other.key.cmp(&row.key).then(other.seq.cmp(&row.seq))
 }
 
 // Whether a row hides a later one: both have the same key, and the first one is no operand.

@@ -31,7 +31,16 @@ pub fn key_order(key: &[u8], other: &[u8]) -> Ordering
     if rest.is_empty() && other_rest.is_empty() {
         return Ordering::Equal;
     }
-    rest.cmp(other_rest)
+    rest_order(rest, other_rest)
+}
+
+// Compares what is left of two keys after their equal words. It stays out of line: few keys get here,
+// and the loops that call it then need no room on the stack.
+#[inline(never)]
+fn rest_order(rest: &[u8], other: &[u8]) -> Ordering
+    ensures { result ≡ key_cmp rest.now other.now }
+{
+    rest.cmp(other)
 }
 
 /// Whether two keys are the same. It compares eight bytes at once, and is cheaper than their order.
@@ -55,7 +64,7 @@ pub fn same_key(key: &[u8], other: &[u8]) -> bool
     if rest.is_empty() && other_rest.is_empty() {
         return true;
     }
-    rest.cmp(other_rest).is_eq()
+    rest_order(rest, other_rest).is_eq()
 }
 
 /// Compares rows as tables order them: keys rise, and within a key sequences fall.

@@ -28,4 +28,4 @@ returns-then-is_empty-2 c =
 pub returns : goal.returns
 returns c =
     c.is_eq.ensures
-    ∙ (ap is_eq c.cmp.ensures ∙ rest_decides c.args.key.now c.args.other.now c.words.rest.now c.words.other_rest.now c.words.invariant)
+    ∙ (ap is_eq c.rest_order.ensures ∙ rest_decides c.args.key.now c.args.other.now c.words.rest.now c.words.other_rest.now c.words.invariant)
