@@ -2,9 +2,9 @@
 #![tactic(auto)]
 
 pub mod flaw;
-pub mod given;
+pub mod given_rows;
 pub mod parse;
-mod shown;
 pub mod tables;
 pub mod tell;
+mod texts;
 pub mod words;

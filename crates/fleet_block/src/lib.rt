@@ -12,7 +12,7 @@ mod place;
 mod put;
 mod read;
 mod row;
-mod shared;
+mod shared_bytes;
 mod write;
 
 pub use block::block_at;

@@ -8,7 +8,7 @@ ghost use Rattle.row_model.specs.Written.Sizes.{content_len};
 ghost use Rattle.fleet_rows.specs.Row.{content_of, row_of};
 
 use crate::fits::know_numbers_fit;
-use crate::shared::shared_len;
+use crate::shared_bytes::shared_len;
 use fleet_rows::{RowEntry, SlateDBError, ValueDeletable};
 
 const TOMBSTONE: u8 = 1;

@@ -4,8 +4,8 @@
 
 mod change;
 mod put;
-mod unchanged;
+mod same_manifest;
 
 pub use change::{change_of, is_nothing};
 pub use put::{PollPut, records_put};
-pub use unchanged::is_unchanged;
+pub use same_manifest::is_unchanged;

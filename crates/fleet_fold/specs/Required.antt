@@ -5,7 +5,7 @@ use Rattle.fleet_iter.specs.Iteration.{IteratorState, AreRising, IsHandedOn, Sou
 use Rattle.fleet_rows.specs.declared.row.RowEntry.{RowEntry}
 use Rattle.fleet_rows.specs.declared.errors.SlateDBError.{SlateDBError}
 use Rattle.fleet_rows.specs.declared.errors.SlateDBError.TheVariants.{MergeOperatorMissing}
-use Rattle.fleet_fold.specs.declared.required.MergeOperatorRequiredIterator.{MergeOperatorRequiredIterator}
+use Rattle.fleet_fold.specs.declared.required_operator.MergeOperatorRequiredIterator.{MergeOperatorRequiredIterator}
 
 -- The rows before the first operand.
 abbrev pub before_operand : List Row → List Row

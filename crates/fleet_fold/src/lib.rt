@@ -11,7 +11,7 @@ mod keeping;
 pub mod laws;
 mod merging;
 mod operator;
-mod required;
+mod required_operator;
 mod retention;
 
 pub use append::AppendOperator;
@@ -23,5 +23,5 @@ pub use filtering::CompactionFilterIterator;
 pub use job::{JobIterator, job_iterator};
 pub use merging::MergeOperatorIterator;
 pub use operator::{BatchMerger, MERGE_OPERATOR_OPERANDS, MergeOperator};
-pub use required::MergeOperatorRequiredIterator;
+pub use required_operator::MergeOperatorRequiredIterator;
 pub use retention::RetentionIterator;

@@ -10,7 +10,7 @@ ghost use Rattle.fleet_iter.specs.Heads.{HeadRows, refilled_heads};
 ghost use Rattle.fleet_iter.specs.Tracked.{row_bytes};
 
 use crate::merge::hides;
-use crate::tracked::row_bytes;
+use crate::tracked_bytes::row_bytes;
 use crate::{IterationOrder, MergeIteratorHeapEntry};
 use fleet_rows::{RowEntry, SlateDBError};
 use std::alloc::Global;

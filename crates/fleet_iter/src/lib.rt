@@ -12,7 +12,7 @@ mod merge;
 mod peeking;
 mod resuming;
 mod rising;
-mod tracked;
+mod tracked_bytes;
 
 pub use entry::MergeIteratorHeapEntry;
 pub use failure::Failure;
@@ -22,4 +22,4 @@ pub use merge::{MergeIterator, merges_rise, merges_sort};
 pub use peeking::PeekingIterator;
 pub use resuming::{ResumingIterator, is_written, resumes_after};
 pub use rising::{are_rising, ordered_rows_rise};
-pub use tracked::TrackedRowEntryIterator;
+pub use tracked_bytes::TrackedRowEntryIterator;

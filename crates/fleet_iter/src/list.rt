@@ -6,7 +6,7 @@ ghost use Rattle.fleet_iter.specs.Iteration.{Inits, Nexts, Seeks};
 ghost use Rattle.fleet_iter.specs.List.{left_state, giving_state};
 ghost use Rattle.fleet_iter.specs.Tracked.{counted_bytes, taken_at_once};
 
-use crate::tracked::row_bytes;
+use crate::tracked_bytes::row_bytes;
 use crate::{RowEntryIterator, TrackedRowEntryIterator};
 use fleet_rows::{RowEntry, SlateDBError};
 use std::alloc::Global;

@@ -11,7 +11,7 @@ ghost use Rattle.fleet_iter.specs.Tracked.{row_bytes, first_bytes, kept_back, co
 ghost use Rattle.fleet_iter.specs.MergeState.{state_of, merge_of, IsSound};
 
 use crate::heads::Heads;
-use crate::tracked::row_bytes;
+use crate::tracked_bytes::row_bytes;
 use crate::{Failure, IterationOrder, RowEntryIterator, RowSource, TrackedRowEntryIterator};
 use fleet_rows::{RowEntry, SlateDBError, ValueDeletable, row_order};
 use std::alloc::Global;

@@ -5,7 +5,7 @@ mod options;
 mod picking;
 mod scheduler;
 mod sizes;
-mod used;
+mod used_nodes;
 
 pub use options::LevelOptions;
 pub use scheduler::LevelScheduler;

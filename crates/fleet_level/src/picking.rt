@@ -15,7 +15,7 @@ ghost use Rattle.fleet_level.specs.Sizes.{HasSizes};
 
 use crate::LevelOptions;
 use crate::sizes::run_size;
-use crate::used::{are_fewer, flush_sources, nodes_used, uses_any};
+use crate::used_nodes::{are_fewer, flush_sources, nodes_used, uses_any};
 use bytes::Bytes;
 use fleet_book::CompactorStateView;
 use fleet_jobs::{CompactionSpec, NodeSet, SourceId};

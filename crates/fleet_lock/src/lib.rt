@@ -3,7 +3,7 @@
 
 mod calls;
 mod folds;
-mod held;
+mod held_value;
 mod holds;
 mod laws;
 mod lock;
@@ -12,7 +12,7 @@ mod pass_store;
 mod sight;
 
 pub use folds::Folds;
-pub use held::Held;
+pub use held_value::Held;
 pub use holds::Holds;
 pub use laws::callers_keep_passes;
 pub use lock::{Lock, SharedStore};

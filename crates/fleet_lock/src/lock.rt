@@ -12,7 +12,7 @@ ghost use Rattle.fleet_lock.specs.Passes.{IsFirst, IsIdle, MayCarry, first_view}
 ghost use Rattle.fleet_lock.specs.Rule.{Follows, GetsTurn, HoldsName, IsFoundBy, IsFront, IsWaiting, after_serving, joined_view, keeps_less, longer, newcomer, shorter, with_ticket, with_turn};
 
 use crate::folds::{Folds, lend};
-use crate::held::Held;
+use crate::held_value::Held;
 use crate::holds::Holds;
 use crate::pass::Pass;
 use crate::sight::Sight;

@@ -7,7 +7,7 @@ ghost use Rattle.fleet_store.specs.Exchanges.{noted_exchange};
 ghost use Rattle.fleet_store.specs.Manifests.{jobs_shown};
 ghost use Rattle.fleet_lock.specs.Calls.{CallStands};
 
-use crate::held::Held;
+use crate::held_value::Held;
 use crate::holds::Holds;
 use crate::lock::{Lock, Place, seat_of};
 use crate::pass::Pass;

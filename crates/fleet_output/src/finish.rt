@@ -5,9 +5,9 @@ ghost use Rattle.fleet_output.specs.Finishes.{MayWriteLeft, WritesLeft};
 ghost use Rattle.fleet_output.specs.Left.{CanFinish};
 ghost use Rattle.fleet_output.specs.RangePuts.{AreDescribed};
 
-use crate::left::read_left;
 use crate::outputs::all_outputs;
 use crate::ranges::put_ranges;
+use crate::ranges_left::read_left;
 use fleet_exec::RangeGate;
 use fleet_fold::MergeOperator;
 use fleet_plan::Subcompaction;

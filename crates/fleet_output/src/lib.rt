@@ -6,19 +6,19 @@
 mod finish;
 mod gets;
 mod job;
-mod left;
 mod next;
 mod outputs;
 mod put;
 mod ranges;
+mod ranges_left;
 mod write;
 
 pub use finish::finish_left;
 pub use gets::{get_tables, tables_in};
 pub use job::{range_job, range_jobs};
-pub use left::{LeftTables, read_left};
 pub use next::read_next;
 pub use outputs::all_outputs;
 pub use put::put_output;
 pub use ranges::put_ranges;
+pub use ranges_left::{LeftTables, read_left};
 pub use write::write_next;

@@ -13,8 +13,8 @@ ghost use Rattle.fleet_output.specs.RangePuts.{
   PutsRanges,
 };
 
-use crate::left::LeftTables;
 use crate::put::put_output;
+use crate::ranges_left::LeftTables;
 use fleet_exec::RangeTables;
 use fleet_rows::{ListOf, SlateDBError};
 use fleet_store::Store;

@@ -4,12 +4,11 @@
 
 mod adding;
 mod asking;
-mod checked;
 mod committing;
 mod draining;
 mod failing;
 mod freeing;
-mod gated;
+mod gated_jobs;
 mod joining;
 mod judging;
 mod moving;
@@ -18,6 +17,7 @@ mod poll;
 mod proposing;
 mod report;
 mod steps;
+mod submitted_jobs;
 
 pub use poll::Poll;
 pub use report::PollReport;

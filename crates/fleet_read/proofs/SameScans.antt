@@ -2,16 +2,15 @@
 use Rattle.std.proofs.Common.{◌≡◌, refl, sym, ◌∙◌, ap, ℕ, ℤ, List, [], ◌∷◌, cond, Bool, true, false, Option}
 use Rattle.std.specs.Prelude.{bytes_eq, option_map}
 use Rattle.std.specs.List.{AllByRecursion, cons_option, filter_map}
-use Rattle.std.specs.declared.cmp.Ordering.{Ordering}
-use Rattle.std.specs.declared.cmp.Ordering.TheVariants.{Less, Equal, Greater}
 use Rattle.std.proofs.lemmas.Slice.Eq.{bytes_eq-Decides}
 use Rattle.row_model.specs.Fold.{Operator, Outcome}
 use Rattle.row_model.specs.Ranges.{Range, is_in_range, rows_in}
 use Rattle.row_model.specs.Read.{read}
-use Rattle.row_model.specs.Rows.{Row, key_cmp, rows_of_key, sorted_rows}
-use Rattle.row_model.specs.Scans.{key_answer, keys_of, put_key, scanned_pairs, with_key}
+use Rattle.row_model.specs.Rows.{Row, rows_of_key, sorted_rows}
+use Rattle.row_model.specs.Scans.{key_answer, keys_of, scanned_pairs}
 use Rattle.row_laws.proofs.ApartRows.{false_or, passes}
 use Rattle.row_laws.proofs.Elements.{all_weaken}
+use Rattle.fleet_scan.proofs.Keys.{all_keys}
 
 -- The rows of a key of the range are among the rows in the range.
 of_key_in : (range : Range) (key : List ℕ) (rows : List Row) → is_in_range range key ≡ true → rows_of_key key (rows_in range rows) ≡ rows_of_key key rows
@@ -23,20 +22,6 @@ of_key_in range key (r ∷ rows) inside = by (is_in_range range r.key) refl (of_
     by false is rest =
         rest ∙ sym (ap (λ b. cond b (r ∷ rows_of_key key rows) (rows_of_key key rows)) (false_or (bytes_eq key r.key) (λ same.
         let here = ap (is_in_range range) ((bytes_eq-Decides key r.key).0 same) in cc (here, inside, is))))
-
--- What the keys of all rows have, each key of their list has.
-all_put : (P : List ℕ → Type 0) (key : List ℕ) (keys : List (List ℕ)) → P key → AllByRecursion P keys → AllByRecursion P (put_key key keys)
-all_put P key [] here all = (here, tt)
-all_put P key (first ∷ keys) here all = by (key_cmp key first) (all_put P key keys here all.1)
-  where
-    by : (o : Ordering) → AllByRecursion P (put_key key keys) → AllByRecursion P (with_key o key first keys (put_key key keys))
-    by Less later = (here, all)
-    by Equal later = all
-    by Greater later = (all.0, later)
-
-all_keys : (P : List ℕ → Type 0) (rows : List Row) → AllByRecursion (λ (r : Row). P r.key) rows → AllByRecursion P (keys_of rows)
-all_keys P [] all = tt
-all_keys P (r ∷ rows) all = all_put P r.key (keys_of rows) all.0 (all_keys P rows all.1)
 
 same_answers : {A B : Type 0} (f g : A → Option B) (xs : List A) → AllByRecursion (λ x. f x ≡ g x) xs → filter_map f xs ≡ filter_map g xs
 same_answers f g [] all = refl

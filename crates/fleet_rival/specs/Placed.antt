@@ -1,7 +1,7 @@
 -- What a store shows that tells its place.
 use Rattle.std.specs.Prelude.{ℕ, List, [], ◌∷◌}
 use Rattle.step_model.specs.Views.{StoreView}
-use Rattle.fleet_rival.specs.declared.placed.Placed.{Placed}
+use Rattle.fleet_rival.specs.declared.placed_store.Placed.{Placed}
 
 -- The store inside.
 abbrev pub store_of : {S : Type 0} → Placed S → S

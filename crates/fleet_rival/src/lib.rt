@@ -3,9 +3,9 @@
 #![tactic(auto)]
 
 mod first;
-mod placed;
+mod placed_store;
 mod rival;
 
 pub use first::first_records;
-pub use placed::Placed;
+pub use placed_store::Placed;
 pub use rival::Rival;

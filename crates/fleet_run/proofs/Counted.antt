@@ -12,7 +12,7 @@ use Rattle.fleet_run.specs.Served.{Served}
 use Rattle.fleet_run.specs.SourceAndSink.{SinkView, Took, TookShort, counted_bytes}
 use Rattle.fleet_run.specs.declared.command.Command.{Command}
 use Rattle.fleet_run.specs.declared.command.Command.TheVariants.{Generate}
-use Rattle.fleet_run.specs.declared.generated.Sizes.{Sizes}
+use Rattle.fleet_run.specs.declared.generated_runs.Sizes.{Sizes}
 use Rattle.fleet_run.specs.declared.script.FleetError.{FleetError}
 use Rattle.fleet_run.specs.declared.script.FleetError.TheVariants.{BadLine, Memory, WriteFault}
 use Rattle.fleet_run.proofs.CommandWords.{for_asked}

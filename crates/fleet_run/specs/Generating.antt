@@ -5,7 +5,7 @@ use Rattle.script_model.specs.Script.{script_text}
 use Rattle.script_model.specs.States.{Inputs, FleetOptions, State}
 use Rattle.fleet_run.specs.SourceAndSink.{counted_bytes}
 use Rattle.fleet_run.specs.Program.{RunsGenerated}
-use Rattle.fleet_run.specs.declared.generated.Sizes.{Sizes}
+use Rattle.fleet_run.specs.declared.generated_runs.Sizes.{Sizes}
 
 -- The generated script ran, and these are the sizes of the script and of its replies.
 pub record RunsCounted (inputs : Inputs) (options : FleetOptions) (number rounds : ℕ) (last : State) (sizes : Sizes)

@@ -2,7 +2,7 @@
 #![tactic(auto)]
 
 mod command;
-mod generated;
+mod generated_runs;
 mod memory;
 mod program;
 mod script;

@@ -14,7 +14,7 @@ ghost use Rattle.fleet_run.specs.declared.command.Command.TheVariants.{Generate}
 ghost use Rattle.fleet_run.specs.declared.script.FleetError.TheVariants.{Memory, TooLong, ReadFault};
 
 use crate::command::Command;
-use crate::generated::run_generated;
+use crate::generated_runs::run_generated;
 use crate::script::{FleetError, run_script};
 use crate::source_and_sink::{Sink, Source};
 use fleet_fold::MergeOperator;

@@ -1,4 +1,4 @@
-mod Keys
+pub mod Keys
 mod KeyByKey
 mod Parts
 mod Folds

@@ -6,12 +6,12 @@
 mod defaults;
 mod options;
 mod picking;
-mod planned;
+mod planned_trees;
 mod planning;
 mod scheduler;
 mod series;
 mod size_tiered;
-mod sized;
+mod sized_nodes;
 mod supplier;
 mod validation;
 

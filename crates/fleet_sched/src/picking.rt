@@ -6,7 +6,7 @@ ghost use Rattle.fleet_jobs.specs.Specs.{spec_of};
 ghost use Rattle.sched_model.specs.Picks.{fresh_after, next_pick, pass, passes, picked_in, with_pick};
 
 use crate::SizeTieredCompactionSchedulerOptions;
-use crate::planned::Planned;
+use crate::planned_trees::Planned;
 use fleet_jobs::CompactionSpec;
 use std::alloc::{AllocError, Global};
 use std::marker::Model;

@@ -11,8 +11,8 @@ ghost use Rattle.fleet_sched.specs.Views.{open_records, shown_jobs, trees_in, vi
 ghost use Rattle.fleet_tree.specs.Trees.{RunFlushes, trees_with_prefix};
 ghost use Rattle.fleet_sched.specs.Ids.{destinations_in, ids_in};
 
-use crate::planned::Planned;
-use crate::sized::{sized_flushes, sized_runs};
+use crate::planned_trees::Planned;
+use crate::sized_nodes::{sized_flushes, sized_runs};
 use bytes::Bytes;
 use fleet_book::{CompactorStateView, VersionedCompactions};
 use fleet_jobs::{Compaction, CompactionSpec, CompactionStatus, NodeSet};

@@ -5,7 +5,7 @@ ghost use Rattle.fleet_model.specs.Nodes.{Run, names_contain};
 ghost use Rattle.sched_model.specs.Series.{first_series, is_similar, is_taken_again, lesser, longest, may_join, oldest, similar_series, threshold};
 
 use crate::SizeTieredCompactionSchedulerOptions;
-use crate::sized::{SizedRun, oldest_runs};
+use crate::sized_nodes::{SizedRun, oldest_runs};
 use fleet_jobs::{NodeSet, SourceId};
 
 fn threshold(options: &SizeTieredCompactionSchedulerOptions, size: u64) -> u128

@@ -1,8 +1,8 @@
 //! The sweep, which deletes the tables that nothing can need.
 #![tactic(auto)]
 
-mod named;
+mod named_tables;
 mod sweeping;
-mod unneeded;
+mod unneeded_tables;
 
 pub use sweeping::sweep;

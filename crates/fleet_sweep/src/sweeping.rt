@@ -3,7 +3,7 @@
 ghost use Rattle.std.specs.Prelude.{IfOk};
 ghost use Rattle.fleet_sweep.specs.Sweeps.{FindsSwept, IsSwept, MaySweep, SweepRan};
 
-use crate::unneeded::unneeded;
+use crate::unneeded_tables::unneeded;
 use fleet_rows::{IdList, SlateDBError};
 use fleet_store::SweepStore;
 use std::alloc::Global;

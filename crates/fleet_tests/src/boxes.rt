@@ -1,7 +1,7 @@
 // Iterators of several kinds in boxes.
 ghost use Rattle.fleet_iter.specs.Iteration.{IsAlive};
 
-use crate::spelt::{are_spelt, given, list, merge};
+use crate::spelt_rows::{are_spelt, given, list, merge};
 use fleet_fold::{AppendOperator, MergeOperatorIterator, RetentionIterator};
 use fleet_iter::{MergeIterator, PeekingIterator, RowEntryIterator, TrackedRowEntryIterator};
 use fleet_rows::{RowEntry, Settings, SlateDBError};

@@ -3,7 +3,7 @@ ghost use Rattle.std.specs.Prelude.{◌≡◌, ⊤, true, false, reverse, IfOk};
 ghost use Rattle.fleet_rows.specs.Row.{rows_of};
 ghost use Rattle.fleet_iter.specs.Iteration.{AreRising};
 
-use crate::spelt::rows;
+use crate::spelt_rows::rows;
 use fleet_iter::{RowEntryIterator, are_rising};
 use fleet_rows::{RowEntry, SlateDBError};
 use std::alloc::Global;

@@ -4,7 +4,7 @@ ghost use Rattle.std.specs.Prelude.{◌≡◌, None, true};
 ghost use Rattle.fleet_iter.specs.Iteration.{AreRising};
 
 use crate::failing::{before_fault, failing};
-use crate::spelt::are_spelt;
+use crate::spelt_rows::are_spelt;
 use bytes::Bytes;
 use fleet_fold::{
     AppendOperator, CompactionFilter, CompactionFilterDecision, CompactionFilterIterator,

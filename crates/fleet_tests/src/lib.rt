@@ -37,7 +37,7 @@ mod run_ranges;
 #[cfg(test)]
 mod scripts;
 #[cfg(test)]
-mod spelt;
+mod spelt_rows;
 #[cfg(test)]
 mod stores;
 #[cfg(test)]

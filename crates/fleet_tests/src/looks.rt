@@ -1,5 +1,5 @@
 // Looking ahead, calls that come too early, and iterators without rows.
-use crate::spelt::{are_spelt, given, list, merge};
+use crate::spelt_rows::{are_spelt, given, list, merge};
 use fleet_fold::{AppendOperator, MERGE_OPERATOR_OPERANDS, MergeOperatorIterator};
 use fleet_iter::{
     EmptyIterator, ListIterator, PeekingIterator, ResumingIterator, RowEntryIterator,

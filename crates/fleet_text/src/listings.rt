@@ -13,11 +13,11 @@ ghost use Rattle.fleet_text.specs.Pages.{page_of};
 ghost use Rattle.fleet_text.specs.Printed.{attempt_begun, counted_tables, polled_text, tree_text};
 
 use crate::answers::{said, said_jobs};
+use crate::job_texts::append_segment;
 use crate::lists::{jobs_text, listed_each, listed_each_apart, listed_ranges, tables_text};
 use crate::prints::Prints;
 use crate::reply::Reply;
 use crate::report::{Begun, Page, PollReport, ScanEnd};
-use crate::shown::append_segment;
 use crate::texts::{append_bytes, bytes_text};
 use bytes::Bytes;
 use fleet_jobs::Compaction;

@@ -13,9 +13,9 @@ ghost use Rattle.fleet_jobs.specs.Contexts.{table_ids};
 ghost use Rattle.fleet_text.specs.Places.{places_text};
 ghost use Rattle.fleet_text.specs.Printed.{counted_tables};
 
+use crate::job_texts::nodes_text;
 use crate::listings::rows_listed;
 use crate::lists::{jobs_text, listed_each, listed_ranges, tables_text};
-use crate::shown::nodes_text;
 use crate::texts::bytes_text;
 use fleet_rows::{JobList, PlaceList, RowEntry, RuleList, SlateDBError};
 use fleet_tree::{LsmTreeState, OutputList, TableList};

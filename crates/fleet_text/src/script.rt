@@ -11,7 +11,7 @@ ghost use Rattle.fleet_text.specs.Served.{MayStand};
 use crate::TextError;
 use crate::forms::line_by;
 use crate::line::{Line, LineList};
-use crate::served::may_stand;
+use crate::served_lines::may_stand;
 use crate::word::cut;
 use std::alloc::{AllocError, Global};
 

@@ -7,7 +7,7 @@ mod claim;
 mod finish;
 mod finishing;
 mod handle;
-mod held;
+mod held_tables;
 mod output;
 mod release;
 mod worker;

@@ -35,7 +35,7 @@ use crate::claim::{
     ClaimPut, ClaimReport, ClaimStart, attempts_after, begun_jobs, note_each, other_attempts,
     put_attempt, run_jobs,
 };
-use crate::held::all_held;
+use crate::held_tables::all_held;
 use crate::release::{ReleasePut, is_over, jobs_of, released};
 use fleet_book::{Compactions, VersionedCompactions};
 use fleet_claim::{

@@ -1,5 +1,0 @@
-use Rattle.fleet_lock.proofs.held.HeldHolds.get_records.Given as goal
-
--- The fold of the operator.
-abbrev pub ghosts-get_records : goal.ghosts-get_records
-ghosts-get_records g a = record { fold = g.O.Folds.folds (g.O.Folds.has a.operator.now.operator.now); lawful = a.operator.now.lawful (g.O.Folds.has a.operator.now.operator.now) }

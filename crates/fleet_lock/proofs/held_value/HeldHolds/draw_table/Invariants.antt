@@ -1,0 +1,5 @@
+use Rattle.fleet_lock.proofs.held_value.HeldHolds.draw_table.Given as goal
+
+-- The fold of the operator.
+abbrev pub ghosts-draw_table : goal.ghosts-draw_table
+ghosts-draw_table g a = record { fold = g.O.Folds.folds (g.O.Folds.has a.operator.now.operator.now); lawful = a.operator.now.lawful (g.O.Folds.has a.operator.now.operator.now) }

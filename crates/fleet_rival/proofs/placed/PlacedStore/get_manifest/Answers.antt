@@ -1,6 +1,0 @@
-use Rattle.fleet_rival.specs.Placed.{place_of, store_of}
-use Rattle.fleet_rival.proofs.Places.{placed}
-use Rattle.fleet_rival.proofs.placed.PlacedStore.get_manifest.Goals as goal
-
-pub returns : goal.returns
-returns g c = placed (place_of c.args.self.now) (g.S.Store.view (store_of c.args.self.now)) (g.S.Store.view c.get_manifest.new.self) _ _ _ c.get_manifest.result c.get_manifest.ensures

@@ -1,7 +1,0 @@
-use Rattle.std.proofs.Common.{◌≡◌, map, take}
-use Rattle.fleet_jobs.specs.Sources.{name_of}
-use Rattle.sched_model.specs.Sizes.{run_names}
-use Rattle.fleet_sched.proofs.sized.run_sources.Given as goal
-
-abbrev pub invariant-runs : goal.invariant-runs
-invariant-runs l = map name_of l.sources.items ≡ run_names (take l.run-index l.runs)
