@@ -46,7 +46,7 @@ ordered_in : (range : Range) (sources : List (List (List Row))) → AllByRecursi
 ordered_in range [] h = tt
 ordered_in range (tables ∷ sources) h = (ordered_filter (λ r. is_in_range range r.key) (source_rows tables) h.0, ordered_in range sources h.1)
 
-pairs_filter : (R : Row → Row → Type 0) (p : Row → Bool) (rows : List Row) → Pairs R rows → Pairs R (filter p rows)
+pub pairs_filter : (R : Row → Row → Type 0) (p : Row → Bool) (rows : List Row) → Pairs R rows → Pairs R (filter p rows)
 pairs_filter R p [] h = tt
 pairs_filter R p (r ∷ rows) h = by (p r) (pairs_filter R p rows h.1) (all_filter (R r) p rows h.0)
   where

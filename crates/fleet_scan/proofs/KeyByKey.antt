@@ -6,18 +6,18 @@ use Rattle.std.specs.List.Sorted.{IsStrictlySortedBy}
 use Rattle.std.specs.declared.cmp.Ordering.TheVariants.{Less}
 use Rattle.std.proofs.lemmas.List.{append-nil}
 use Rattle.std.proofs.lemmas.Slice.Eq.{bytes_eq-Decides}
-use Rattle.row_model.specs.Lists.{Pairs}
 use Rattle.row_model.specs.Rows.{Row, key_cmp, row_cmp, rows_of_key, sorted_rows, IsStrictlyOrdered}
 use Rattle.row_model.specs.Fold.{Operator}
 use Rattle.row_model.specs.Read.{read}
 use Rattle.row_model.specs.Ranges.{Range, is_in_range, rows_in}
 use Rattle.row_model.specs.Scans.{key_answer, keys_of, scanned_pairs}
 use Rattle.row_laws.specs.Merges.{AreApart}
-use Rattle.row_laws.proofs.ApartRows.{false_or, all_filter, passes}
+use Rattle.row_laws.proofs.ApartRows.{false_or, passes}
 use Rattle.row_laws.proofs.Elements.{all_weaken, all_front}
 use Rattle.row_laws.proofs.KeyRows.{key_alike, Keys, IsOther, of_key-append, of_key-others, of_key-all}
 use Rattle.row_laws.proofs.Merges.{apart_are_ordered, ordered_stay}
 use Rattle.row_laws.proofs.Sources.{filter-sorted_rows}
+use Rattle.fleet_exec.proofs.Opened.{pairs_filter}
 use Rattle.fleet_scan.specs.Answers.{answers_of, BeginsApart, HaveKey}
 use Rattle.fleet_scan.proofs.Keys.{Above, all_keys, keys-first, keys-sorted_rows, rest_is_above}
 
@@ -99,14 +99,6 @@ of_key-in range key (r ∷ rows) inside = by (is_in_range range r.key) refl (of_
     by false is rest =
         rest ∙ sym (ap (λ b. cond b (r ∷ rows_of_key key rows) (rows_of_key key rows)) (false_or (bytes_eq key r.key) (λ same.
         let here = ap (is_in_range range) ((bytes_eq-Decides key r.key).0 same) in cc (here, inside, is))))
-
-pub pairs_filter : (R : Row → Row → Type 0) (p : Row → Bool) (rows : List Row) → Pairs R rows → Pairs R (filter p rows)
-pairs_filter R p [] h = tt
-pairs_filter R p (r ∷ rows) h = by (p r) (pairs_filter R p rows h.1) (all_filter (R r) p rows h.0)
-  where
-    by : (b : Bool) → Pairs R (filter p rows) → AllByRecursion (R r) (filter p rows) → Pairs R (cond b (r ∷ filter p rows) (filter p rows))
-    by true rest later = (later, rest)
-    by false rest later = rest
 
 module _ (merge : Operator) (range : Range) (seq : ℕ) (now : ℤ) (rows : List Row) (apart : AreApart (rows_in range rows)) where
   abbrev inside : List Row

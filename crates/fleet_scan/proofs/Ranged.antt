@@ -15,7 +15,8 @@ use Rattle.fleet_exec.proofs.Opened.{flat_in, merged_in}
 use Rattle.fleet_scan.specs.Answers.{answers_of}
 use Rattle.fleet_scan.specs.ScanState.{ReadsOn}
 use Rattle.fleet_scan.specs.Sources.{all_rows, ranged_rows}
-use Rattle.fleet_scan.proofs.KeyByKey.{pairs_filter, scan-sorted}
+use Rattle.fleet_exec.proofs.Opened.{pairs_filter}
+use Rattle.fleet_scan.proofs.KeyByKey.{scan-sorted}
 
 module _ (range : Range) (sources : Sources) (h : AreSources sources) where
   apart : AreApart (rows_in range (all_rows sources))
