@@ -21,6 +21,8 @@ mod faults;
 #[cfg(test)]
 mod forms;
 #[cfg(test)]
+mod loads;
+#[cfg(test)]
 mod looks;
 #[cfg(test)]
 mod memory;
@@ -36,6 +38,8 @@ mod rivals;
 mod run_ranges;
 #[cfg(test)]
 mod scripts;
+#[cfg(test)]
+mod seeks;
 #[cfg(test)]
 mod spelt_rows;
 #[cfg(test)]

@@ -1,58 +1,20 @@
 // Ranges of runs whose tables have several blocks.
 
+use crate::loads::{Load, row_at, table};
 use bytes::Bytes;
 use fleet_iter::RowEntryIterator;
 use fleet_range::BytesRange;
-use fleet_rows::{RowEntry, SlateDBError, ValueDeletable};
-use fleet_table::{RunData, RunIterator, TableData, are_in_bounds, are_strictly_ordered};
+use fleet_rows::SlateDBError;
+use fleet_table::{RunData, RunIterator};
 use std::alloc::Global;
 use std::ops::Bound;
 
-// The rows of a run: how many keys there are, how many versions each has, and how many bytes each
-// value has. The run has two tables with half of the keys each.
-#[derive(Clone, Copy)]
-struct Load {
-    keys: u64,
-    versions: u64,
-    len: usize,
-}
-
-// A version of a key. The sequences fall from version to version.
-fn row(alloc: Global, load: Load, key: u64, seq: u64) -> Result<RowEntry, SlateDBError> {
-    let digits = format!(in alloc; "{key:04}")?;
-    let key = Bytes::copy_from_slice(alloc, digits.as_bytes())?;
-    let value = Bytes::from_vec(vec![in alloc; b'v'; load.len]?)?;
-    Ok(RowEntry::new(key, ValueDeletable::Value(value), seq, None, None))
-}
-
-fn table(alloc: Global, load: Load, start: u64, end: u64) -> Result<TableData, SlateDBError> {
-    let mut rows = Vec::new(alloc);
-    'keys: for key in start..end {
-        'versions: for version in 0..load.versions {
-            rows.push(row(alloc, load, key, load.versions - version)?)?;
-        }
-    }
-    if rows.is_empty() || !are_strictly_ordered(&rows) || !are_in_bounds(&rows) {
-        return Err(SlateDBError::InvalidDBState);
-    }
-    TableData::from_rows(alloc, rows)
-}
-
+// A run of two tables with half of the keys each.
 fn run(alloc: Global, load: Load) -> Result<RunData, SlateDBError> {
     let mut run = RunData::new(alloc);
     run.push(table(alloc, load, 0, load.keys / 2)?)?;
     run.push(table(alloc, load, load.keys / 2, load.keys)?)?;
     Ok(run)
-}
-
-// The row of a run with so many rows before it, if there is one.
-fn row_at(alloc: Global, load: Load, place: u64) -> Result<Option<RowEntry>, SlateDBError> {
-    if load.versions == 0 || load.keys <= place / load.versions {
-        return Ok(None);
-    }
-    let key = place / load.versions;
-    let seq = load.versions - place % load.versions;
-    Ok(Some(row(alloc, load, key, seq)?))
 }
 
 // A bound at a key: none, with the key or without it.
