@@ -5,7 +5,7 @@ ghost use Rattle.std.specs.Prelude.{◌≡◌};
 use crate::jobs::{jobs, spec, tell_jobs};
 use crate::trees::{core, manifest, tell_trees};
 use case_words::flaw::Flaw;
-use case_words::given::tell_refusal;
+use case_words::given_rows::tell_refusal;
 use case_words::words::{number, parse_if_any};
 use fleet_book::{Compactions, CompactorState, CompactorStateView, VersionedCompactions};
 use fleet_jobs::{Compaction, CompactionStatus, sources_stand};

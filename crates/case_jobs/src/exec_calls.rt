@@ -6,7 +6,7 @@ ghost use Rattle.fleet_exec.specs.Ranges.{AreSources};
 use crate::fold_calls::{REFUSING, settings};
 use bytes::Bytes;
 use case_words::flaw::Flaw;
-use case_words::given::tell_result;
+use case_words::given_rows::tell_result;
 use case_words::parse::{range, source_words};
 use case_words::tell::{Tell, tell_flag};
 use case_words::words::{Parse, bytes, number, parse_list, parts};

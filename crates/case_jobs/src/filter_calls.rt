@@ -6,7 +6,7 @@ ghost use Rattle.fleet_iter.specs.Iteration.{AreRising};
 use crate::filters::{ForTheLastRun, Replacing, WithoutPrefix};
 use crate::iter_calls::rising_list;
 use case_words::flaw::Flaw;
-use case_words::given::tell_given;
+use case_words::given_rows::tell_given;
 use case_words::parse::content;
 use case_words::words::{bytes, flag};
 use fleet_fold::{

@@ -8,7 +8,7 @@ use crate::operators::{Newest, Sifting};
 use crate::watching::Watching;
 use bytes::Bytes;
 use case_words::flaw::Flaw;
-use case_words::given::{tell_given, tell_ready, tell_result};
+use case_words::given_rows::{tell_given, tell_ready, tell_result};
 use case_words::words::{bytes, flag, number, parse_if_any, parse_list, stamp};
 use fleet_fold::{
     AppendOperator, MergeOperator, MergeOperatorIterator, MergeOperatorRequiredIterator,

@@ -8,7 +8,7 @@ ghost use Rattle.fleet_iter.specs.Merge.{given_rows};
 ghost use Rattle.fleet_iter.specs.MergeState.{state_of, merge_of, IsSound};
 
 use case_words::flaw::Flaw;
-use case_words::given::{tell_ready, tell_refusal};
+use case_words::given_rows::{tell_ready, tell_refusal};
 use case_words::parse::{rows, source_words};
 use case_words::tell::{Tell, tell_flag, tell_order};
 use case_words::words::{Parse, bytes, flag, number};

@@ -1,7 +1,7 @@
 //! Calls of `fleet_table` on rows, and on tables and runs made of rows.
 
 use case_words::flaw::Flaw;
-use case_words::given::tell_given;
+use case_words::given_rows::tell_given;
 use case_words::parse::{range, rows};
 use case_words::tell::{tell_flag, tell_list, tell_ok, tell_or_none};
 use case_words::words::{Parse, bytes, number};
