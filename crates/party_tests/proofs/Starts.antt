@@ -1,5 +1,9 @@
 -- What holds after a step of a coordinator, a submitter or the writer.
-use Rattle.std.proofs.Common.{◌≡◌, ◌∙◌, ap, subst, sym, ℕ, None, Result}
+use Rattle.std.proofs.Common.{◌≡◌, ◌∙◌, ap, subst, sym, ℕ, None, Result, Ok, Err}
+use Rattle.std.specs.Bool.{OnFalse}
+use Rattle.std.specs.Prelude.{IfOk}
+use Rattle.std.proofs.lemmas.Bool.{OnFalse_at, OnFalse_from}
+use Rattle.row_model.specs.Append.{append}
 use Rattle.row_model.specs.Fold.{Operator}
 use Rattle.step_model.specs.Courses.Course.{Course}
 use Rattle.step_model.specs.Courses.StepEnds.{StepEnd}
@@ -8,12 +12,13 @@ use Rattle.step_model.specs.Fits.{CoordinatorHolds}
 use Rattle.step_model.specs.Past.{World}
 use Rattle.step_model.specs.Rivals.{Caller}
 use Rattle.step_model.specs.Views.{StoreView}
-use Rattle.fleet_coordinator.specs.Polling.{MayPoll}
+use Rattle.fleet_model.specs.History.{Coordinator}
+use Rattle.fleet_coordinator.specs.Handling.{CoordinatorParts, IsReady}
 use Rattle.fleet_rows.specs.declared.errors.SlateDBError.{SlateDBError}
 use Rattle.fleet_step.specs.Steps.{StepRan}
 use Rattle.fleet_worker.specs.Workers.{WorkerParts}
 use Rattle.party_tests.specs.Callers.{IsIdle, IsStaffed}
-use Rattle.party_tests.specs.Starts.{MayStart}
+use Rattle.party_tests.specs.Starts.{MayLead, MayStart}
 use Rattle.party_tests.proofs.Hands.{same_caller}
 
 module _ {A B : Type 0} (ends : A → StepEnd B) (course : Course (StepEnd B)) (old new : StoreView) (result : Result A SlateDBError) (ran : StepRan ends course old new result) where
@@ -39,11 +44,35 @@ module _ {A B : Type 0} (ends : A → StepEnd B) (course : Course (StepEnd B)) (
 pub keeps_as : (merge : Operator) (world : World) (view : StoreView) → Keeps merge world → view.who.merge ≡ merge → view.world ≡ world → Keeps view.who.merge view.world
 keeps_as merge world view keeps folds same = subst (λ (m : Operator). Keeps m view.world) (sym folds) (subst (Keeps merge) (sym same) keeps)
 
--- A coordinator may poll over a store that shows the same to it.
-pub may_poll_as : (old new : StoreView) (epoch : ℕ) → MayPoll old epoch → new.who.party ≡ old.who.party → new.who.merge ≡ old.who.merge → new.world ≡ old.world → MayPoll new epoch
-may_poll_as old new epoch may party folds same = record {
-  number = may.number;
-  party = party ∙ may.party;
-  keeps = keeps_as old.who.merge old.world new may.keeps folds same;
-  holds = subst (λ (world : World). CoordinatorHolds world (record { number = may.number; epoch = epoch }) None) (sym same) may.holds;
+-- The coordinator 1 may poll over a store that shows what it may lead.
+pub ready_as : (world : World) (c : CoordinatorParts) (view : StoreView) → MayLead world c → view.who.party ≡ Coordinator 1 → view.who.merge ≡ append → view.world ≡ world → IsReady view c
+ready_as world c view may party folds same = record {
+  number = 1;
+  party = party;
+  keeps = keeps_as append world view may.keeps folds same;
+  holds = subst (λ (met : World). CoordinatorHolds met (record { number = 1; epoch = c.epoch }) None) (sym same) may.holds;
 }
+
+-- The coordinator 1 may lead where it may poll.
+leads_here : (view : StoreView) (c : CoordinatorParts) → IsReady view c → view.who.party ≡ Coordinator 1 → view.who.merge ≡ append → MayLead view.world c
+leads_here view c ready party folds =
+    let named : Coordinator ready.number ≡ Coordinator 1 = sym ready.party ∙ party in
+    record {
+      keeps = subst (λ (merge : Operator). Keeps merge view.world) folds ready.keeps;
+      holds = subst (λ (number : ℕ). CoordinatorHolds view.world (record { number = number; epoch = c.epoch }) None) (cc named) ready.holds;
+    }
+
+module _ {A B : Type 0} (ends : A → StepEnd B) (course : Course (StepEnd B)) (old new : StoreView) (result : Result A SlateDBError) (ran : StepRan ends course old new result) (party : old.who.party ≡ Coordinator 1) (folds : old.who.merge ≡ append) where
+  -- It may lead where it may poll after its step.
+  leads_after : (c : CoordinatorParts) → IsReady new c → MayLead new.world c
+  leads_after c ready =
+      leads_here new c ready (ap (λ (who : Caller). who.party) (same_caller ends course old new result ran).who ∙ party)
+      (same_merge ends course old new result ran append folds)
+
+  -- So it is if it has started, or is not stopped.
+  pub leads_if_ok : (started : Result CoordinatorParts SlateDBError) → IfOk started (IsReady new) → IfOk started (MayLead new.world)
+  leads_if_ok (Ok c) ready = leads_after c ready
+  leads_if_ok (Err e) ready = tt
+
+  pub leads_on : (c : CoordinatorParts) → OnFalse c.stopped (IsReady new c) → OnFalse c.stopped (MayLead new.world c)
+  leads_on c ready = OnFalse_from c.stopped (MayLead new.world c) (λ running. leads_after c (OnFalse_at running ready))

@@ -7,6 +7,8 @@ mod coordinators;
 #[cfg(test)]
 mod faults;
 #[cfg(test)]
+mod refusals;
+#[cfg(test)]
 mod schedulers;
 #[cfg(test)]
 mod sites;

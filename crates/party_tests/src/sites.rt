@@ -87,8 +87,8 @@ fn with_entry(last: u128, entry: &HistoryEntry) -> u128
     }
 }
 
-// The greatest name that a flush has used, or 0.
-fn last_name(history: &[HistoryEntry]) -> Result<u64, SlateDBError>
+/// The greatest name that a flush has used, or 0.
+pub(crate) fn last_name(history: &[HistoryEntry]) -> Result<u64, SlateDBError>
     ensures { IfOk result (λ name. name ≡ entries.last_name (history_of history.now)) }
 {
     let last = history.iter().fold(0, with_entry);
