@@ -5,7 +5,7 @@ use Rattle.fleet_rival.specs.Rival.{view_of}
 use Rattle.party_tests.proofs.Hands.{hand_as}
 use Rattle.party_tests.proofs.refusals.work_refused.Goals as goal
 
-pub work-requires-clause-hand : goal.work-requires-clause-hand
-work-requires-clause-hand g c =
-    hand_as append c.parts.result.0.world c.parts.result.1 (view_of c.beside-rival.result) c.parts.ensures
+pub work-made-requires-clause-hand : goal.work-made-requires-clause-hand
+work-made-requires-clause-hand g c =
+    hand_as append c.parts-store.result.0.world c.parts-store.result.1 (view_of c.beside-rival.result) c.parts-store.ensures
     (c.beside-rival.ensures.party ∙ ap Worker c.id.ensures) c.beside-rival.ensures.folds c.beside-rival.ensures.world
