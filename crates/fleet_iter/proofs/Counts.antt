@@ -1,14 +1,15 @@
--- The bytes of the rows that a merge takes.
+-- The bytes of the rows that a merge takes, and the key of its first row.
 use Rattle.std.proofs.Common.{◌≡◌, ◌∙◌, sym, refl, ap, arith, ℕ, ◌+◌, ◌<◌, ◌^◌, List, [], ◌∷◌, ◌++◌, Option, Some, None, Bool, true, false, cond}
 use Rattle.std.specs.Option.{option_map, unwrap_or}
 use Rattle.row_model.specs.Rows.{Row}
 use Rattle.row_model.specs.Written.Sizes.{saturated_sum}
 use Rattle.fleet_rows.specs.Row.{row_of}
 use Rattle.fleet_rows.specs.declared.row.RowEntry.{RowEntry}
+use Rattle.fleet_rows.specs.declared.errors.SlateDBError.{SlateDBError}
 use Rattle.std.proofs.Math.ListN.{set}
 use Rattle.fleet_iter.specs.Iteration.{IteratorState, after_first, without_first}
 use Rattle.fleet_iter.specs.declared.iterator.IterationOrder.{IterationOrder}
-use Rattle.fleet_iter.specs.Merge.{best, passes, hides, merged_lists, lists, rows_left, merged_left, AllTaken, Takes, Drops, Skips}
+use Rattle.fleet_iter.specs.Merge.{best, passes, hides, has_key, begins_with, given_rows, merged_lists, lists, rows_left, merged_left, AllTaken, Fits, Takes, Drops, Skips}
 use Rattle.fleet_iter.specs.Tracked.{row_bytes, first_bytes, counted_bytes, kept_back, taken_at_once}
 use Rattle.fleet_iter.proofs.Merges.{first_left, none_left, takes_head}
 
@@ -66,3 +67,24 @@ best_bytes order hs ss found bytes count a is size fits = by (best order hs) ref
     by (Some p) f =
         let some : found ≡ Some (row_bytes (row_of p.1)) = is ∙ ap (option_map (λ p. row_bytes (row_of p.1))) f in
         ap (λ (b : ℕ). saturated_sum (count + b)) (size ∙ ap (λ o. unwrap_or o 0) some) ∙ sym (ap (λ (w : List Row). counted_bytes count (taken_at_once false w)) (takes_head order hs ss a p.0 p.1 f).rows)
+
+-- ---- the key of the first row
+
+begins_given : (dedup : Bool) (key : List ℕ) (rows : List Row) → begins_with key (given_rows dedup rows) ≡ begins_with key rows
+begins_given true key [] = refl
+begins_given true key (r ∷ rows) = refl
+begins_given false key rows = refl
+
+-- The first row that is given has the key if the least head has it.
+pub head_begins : (order : IterationOrder) (dedup : Bool) (key : List ℕ) (hs : List (Option RowEntry)) (ss : List IteratorState) → AllTaken hs ss → passes (has_key key) (best order hs) ≡ begins_with key (given_rows dedup (merged_left order hs ss))
+head_begins order dedup key hs ss a = by (best order hs) refl ∙ sym (begins_given dedup key (merged_left order hs ss))
+  where
+    by : (b : Option (ℕ × RowEntry)) → best order hs ≡ b → passes (has_key key) b ≡ begins_with key (merged_left order hs ss)
+    by None f = sym (ap (begins_with key) (none_left order hs ss a f).0)
+    by (Some p) f = sym (ap (begins_with key) (takes_head order hs ss a p.0 p.1 f).rows)
+
+-- Of each source of an initialised merge that has not failed, the first row was taken.
+pub all_taken : (failure : Option SlateDBError) (initialised : Bool) (hs : List (Option RowEntry)) (ss : List IteratorState) → failure ≡ None → initialised ≡ true → Fits failure initialised hs ss → AllTaken hs ss
+all_taken None true hs ss alive begun fits = fits
+all_taken None false hs ss alive begun fits = absurd (cc begun)
+all_taken (Some e) initialised hs ss alive begun fits = absurd (cc alive)

@@ -1,6 +1,7 @@
 -- Rows that dedup hides, and rows that a seek drops.
 use Rattle.std.proofs.Common.{◌≡◌, ◌∙◌, sym, refl, ap, subst, ℕ, List, [], ◌∷◌, ◌&&◌, not, Option, Some, None, Ok, Bool, true, false, cond}
 use Rattle.std.specs.Ordering.{is_lt}
+use Rattle.std.specs.Prelude.{bytes_eq}
 use Rattle.std.proofs.lemmas.Slice.Eq.{bytes_eq-Decides}
 use Rattle.row_model.specs.Rows.{Row, key_cmp, same_key, is_operand}
 use Rattle.row_laws.specs.Keys.{is_below}
@@ -12,7 +13,7 @@ use Rattle.fleet_iter.specs.declared.iterator.IterationOrder.{IterationOrder}
 use Rattle.fleet_iter.specs.declared.iterator.IterationOrder.TheVariants.{Ascending, Descending}
 use Rattle.fleet_iter.proofs.RisingRows.{moves_on}
 use Rattle.fleet_iter.proofs.RisingMerges.{rising_given_too}
-use Rattle.fleet_iter.specs.Merge.{hides, given_after, deduplicated_rows, given_rows, merged_left, are_whole, are_steady, are_exact, all_whole, all_steady, is_known, Takes, Skips, SkipsTo, merging}
+use Rattle.fleet_iter.specs.Merge.{has_key, SkipsKey, hides, given_after, deduplicated_rows, given_rows, merged_left, are_whole, are_steady, are_exact, all_whole, all_steady, is_known, Takes, Skips, SkipsTo, merging}
 
 -- After a given row, dedup skips the rows that this row hides and treats the rest as rows from their
 -- beginning.
@@ -54,41 +55,52 @@ hides_key r q h = (bytes_eq-Decides r.key q.key).0 (second (not (is_operand r)) 
 below_key : (key : List ℕ) (r q : Row) → r.key ≡ q.key → is_below key r ≡ is_below key q
 below_key key r q e = ap (λ (k : List ℕ). is_lt (key_cmp k key)) e
 
--- After a row below the key, dedup gives from the key on what it gives of all the rows from the key on.
-seek_after : (key : List ℕ) (r : Row) (rows : List Row) → is_below key r ≡ true → from_key key (given_after r rows) ≡ deduplicated_rows (from_key key rows)
-seek_after key r [] low = refl
-seek_after key r (q ∷ rows) low = by (hides r q) refl (is_below key q) refl (seek_after key r rows low) (seek_after key q rows)
-  where
-    by : (b : Bool) → hides r q ≡ b → (d : Bool) → is_below key q ≡ d → from_key key (given_after r rows) ≡ deduplicated_rows (from_key key rows)
-        → (is_below key q ≡ true → from_key key (given_after q rows) ≡ deduplicated_rows (from_key key rows))
-        → from_key key (cond b (given_after r rows) (q ∷ given_after q rows)) ≡ deduplicated_rows (cond (is_below key q) (from_key key rows) (q ∷ rows))
-    by true h d e rest later =
-        let low_too : is_below key q ≡ true = sym (below_key key r q (hides_key r q h)) ∙ low in
-        rest ∙ sym (ap (λ c. deduplicated_rows (cond c (from_key key rows) (q ∷ rows))) low_too)
-    by false h true e rest later =
-        ap (λ c. cond c (from_key key (given_after q rows)) (q ∷ given_after q rows)) e
-        ∙ (later e ∙ sym (ap (λ c. deduplicated_rows (cond c (from_key key rows) (q ∷ rows))) e))
-    by false h false e rest later =
-        ap (λ c. cond c (from_key key (given_after q rows)) (q ∷ given_after q rows)) e
-        ∙ sym (ap (λ c. deduplicated_rows (cond c (from_key key rows) (q ∷ rows))) e)
+-- A test of rows that sees only their keys.
+abbrev IsOfKeys : (Row → Bool) → Type 0
+IsOfKeys test = (r q : Row) → r.key ≡ q.key → test r ≡ test q
 
--- The deduplicated rows from a key on are what dedup gives of the rows from that key on.
-seek_deduplicated : (key : List ℕ) (rows : List Row) → from_key key (deduplicated_rows rows) ≡ deduplicated_rows (from_key key rows)
-seek_deduplicated key [] = refl
-seek_deduplicated key (r ∷ rows) = by (is_below key r) refl
+-- After a row that passes such a test, dedup gives of the rows without the first ones that pass it what it gives of
+-- all of them without the first ones that pass it.
+skip_after : (test : Row → Bool) → IsOfKeys test → (r : Row) (rows : List Row) → test r ≡ true → without_first test (given_after r rows) ≡ deduplicated_rows (without_first test rows)
+skip_after test alike r [] low = refl
+skip_after test alike r (q ∷ rows) low = by (hides r q) refl (test q) refl (skip_after test alike r rows low) (skip_after test alike q rows)
   where
-    by : (d : Bool) → is_below key r ≡ d → cond (is_below key r) (from_key key (given_after r rows)) (r ∷ given_after r rows) ≡ deduplicated_rows (cond (is_below key r) (from_key key rows) (r ∷ rows))
+    by : (b : Bool) → hides r q ≡ b → (d : Bool) → test q ≡ d → without_first test (given_after r rows) ≡ deduplicated_rows (without_first test rows)
+        → (test q ≡ true → without_first test (given_after q rows) ≡ deduplicated_rows (without_first test rows))
+        → without_first test (cond b (given_after r rows) (q ∷ given_after q rows)) ≡ deduplicated_rows (cond (test q) (without_first test rows) (q ∷ rows))
+    by true h d e rest later =
+        let low_too : test q ≡ true = sym (alike r q (hides_key r q h)) ∙ low in
+        rest ∙ sym (ap (λ c. deduplicated_rows (cond c (without_first test rows) (q ∷ rows))) low_too)
+    by false h true e rest later =
+        ap (λ c. cond c (without_first test (given_after q rows)) (q ∷ given_after q rows)) e
+        ∙ (later e ∙ sym (ap (λ c. deduplicated_rows (cond c (without_first test rows) (q ∷ rows))) e))
+    by false h false e rest later =
+        ap (λ c. cond c (without_first test (given_after q rows)) (q ∷ given_after q rows)) e
+        ∙ sym (ap (λ c. deduplicated_rows (cond c (without_first test rows) (q ∷ rows))) e)
+
+-- Dedup and dropping the first rows that pass such a test may change places.
+skip_deduplicated : (test : Row → Bool) → IsOfKeys test → (rows : List Row) → deduplicated_rows (without_first test rows) ≡ without_first test (deduplicated_rows rows)
+skip_deduplicated test alike [] = refl
+skip_deduplicated test alike (r ∷ rows) = sym (by (test r) refl)
+  where
+    by : (d : Bool) → test r ≡ d → cond (test r) (without_first test (given_after r rows)) (r ∷ given_after r rows) ≡ deduplicated_rows (cond (test r) (without_first test rows) (r ∷ rows))
     by true e =
-        ap (λ c. cond c (from_key key (given_after r rows)) (r ∷ given_after r rows)) e
-        ∙ (seek_after key r rows e ∙ sym (ap (λ c. deduplicated_rows (cond c (from_key key rows) (r ∷ rows))) e))
+        ap (λ c. cond c (without_first test (given_after r rows)) (r ∷ given_after r rows)) e
+        ∙ (skip_after test alike r rows e ∙ sym (ap (λ c. deduplicated_rows (cond c (without_first test rows) (r ∷ rows))) e))
     by false e =
-        ap (λ c. cond c (from_key key (given_after r rows)) (r ∷ given_after r rows)) e
-        ∙ sym (ap (λ c. deduplicated_rows (cond c (from_key key rows) (r ∷ rows))) e)
+        ap (λ c. cond c (without_first test (given_after r rows)) (r ∷ given_after r rows)) e
+        ∙ sym (ap (λ c. deduplicated_rows (cond c (without_first test rows) (r ∷ rows))) e)
+
+skip_given : (test : Row → Bool) → IsOfKeys test → (dedup : Bool) (rows : List Row) → given_rows dedup (without_first test rows) ≡ without_first test (given_rows dedup rows)
+skip_given test alike true rows = skip_deduplicated test alike rows
+skip_given test alike false rows = refl
 
 -- The rows below a key may be dropped before dedup or after it.
-pub seek_given : (dedup : Bool) (key : List ℕ) (rows : List Row) → given_rows dedup (without_first (is_below key) rows) ≡ from_key key (given_rows dedup rows)
-seek_given true key rows = ap deduplicated_rows (sym (from_key_skipped key rows)) ∙ sym (seek_deduplicated key rows)
-seek_given false key rows = sym (from_key_skipped key rows)
+seek_given : (dedup : Bool) (key : List ℕ) (rows : List Row) → given_rows dedup (without_first (is_below key) rows) ≡ from_key key (given_rows dedup rows)
+seek_given dedup key rows = skip_given (is_below key) (below_key key) dedup rows ∙ sym (from_key_skipped key (given_rows dedup rows))
+
+has_too : (key : List ℕ) (r q : Row) → r.key ≡ q.key → has_key key r ≡ has_key key q
+has_too key r q e = ap (bytes_eq key) e
 
 -- What a seek of a merge leaves.
 module _ (key : List ℕ) (dedup initialised : Bool) (failure : Option SlateDBError) (hs hs' : List (Option RowEntry)) (ss ss' : List IteratorState) where
@@ -118,3 +130,15 @@ module _ (key : List ℕ) (dedup initialised : Bool) (failure : Option SlateDBEr
   pub seeks_all : (order : IterationOrder) → are_exact ss ≡ true → SkipsTo (is_known order (are_exact ss)) order key hs ss hs' ss' → merged_left order hs' ss' ≡ from_key key (merged_left order hs ss)
   seeks_all Ascending e s = (subst (λ b. SkipsTo b Ascending key hs ss hs' ss') e s).rows ∙ sym (from_key_skipped key (merged_left Ascending hs ss))
   seeks_all Descending e s = s.rows ∙ sym (from_key_skipped key (merged_left Descending hs ss))
+
+  -- What it leaves to drop the first rows of a key.
+  pub skips_key : (order : IterationOrder) → initialised ≡ true → failure ≡ None → Skips order (has_key key) hs ss hs' ss' → SkipsKey key (state order hs ss) (state order hs' ss') (Ok tt)
+  skips_key order begun alive s = record {
+    failed = λ h. absurd (h alive);
+    uninitialised = λ _ h. let clash : true ≡ false = sym begun ∙ h in absurd (cc clash);
+    answers = λ _ _.
+        let rows : given_rows dedup (merged_left order hs' ss') ≡ without_first (has_key key) (given_rows dedup (merged_left order hs ss)) = ap (given_rows dedup) s.rows ∙ skip_given (has_key key) (has_too key) dedup (merged_left order hs ss) in
+        let whole : are_whole ss' ≡ are_whole ss = ap all_whole s.same_manner in
+        let steady : are_steady ss' ≡ are_steady ss = ap all_steady s.same_manner in
+        cc (rows, whole, steady);
+  }

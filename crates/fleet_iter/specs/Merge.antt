@@ -1,6 +1,6 @@
 -- The merge of lists of rows. Its next row is always the least first row of a list, and of equal ones that of
 -- the earliest list.
-use Rattle.std.specs.Prelude.{◌≡◌, ◌≢◌, ◌⊎◌, ℕ, ◌+◌, List, [], ◌∷◌, ◌++◌, Option, Some, None, Bool, true, false, not, ◌&&◌, ⊤, map, flat_map, if◌then◌else◌}
+use Rattle.std.specs.Prelude.{◌≡◌, ◌≢◌, ◌⊎◌, ℕ, ◌+◌, List, [], ◌∷◌, ◌++◌, Option, Some, None, Bool, true, false, not, ◌&&◌, ⊤, map, flat_map, bytes_eq, Result, Ok, Err, if◌then◌else◌}
 use Rattle.std.specs.Option.{option_to_list}
 use Rattle.std.specs.Borrow.{Bor}
 use Rattle.std.specs.declared.cmp.Ordering.{Ordering}
@@ -14,7 +14,7 @@ use Rattle.fleet_rows.specs.Row.{row_of, rows_of}
 use Rattle.fleet_rows.specs.declared.row.RowEntry.{RowEntry}
 use Rattle.fleet_rows.specs.declared.errors.SlateDBError.{SlateDBError}
 use Rattle.fleet_rows.specs.declared.errors.SlateDBError.TheVariants.{Memory}
-use Rattle.fleet_iter.specs.Iteration.{IteratorState, AreRising, after_first, from_key, without_first}
+use Rattle.fleet_iter.specs.Iteration.{IteratorState, AreRising, after_first, from_key, without_first, Fails, StaysFailed, StaysUninitialised}
 use Rattle.fleet_iter.specs.declared.iterator.IterationOrder.{IterationOrder}
 use Rattle.fleet_iter.specs.declared.iterator.IterationOrder.TheVariants.{Ascending, Descending}
 
@@ -48,6 +48,10 @@ merged_lists order (rows ∷ lists) = merge_two order rows (merged_lists order l
 -- Whether a row hides a later one: both have the same key, and the first one is no operand.
 abbrev pub hides : (r q : Row) → Bool
 hides r q = not (is_operand r) && same_key r q
+
+-- Whether a row has this key.
+abbrev pub has_key : (key : List ℕ) (r : Row) → Bool
+has_key key r = bytes_eq key r.key
 
 -- The rows that dedup gives after a row that it has given. It leaves out each row that the row given last
 -- hides.
@@ -212,6 +216,21 @@ pub record Skips (order : IterationOrder) (test : Row → Bool) (hs : List (Opti
   pub rows : merged_left order hs' ss' ≡ without_first test (merged_left order hs ss)
   pub taken : AllTaken hs' ss'
   pub same_manner : manners ss' ≡ manners ss
+
+-- Whether the first row has this key.
+abbrev pub begins_with : (key : List ℕ) (rows : List Row) → Bool
+begins_with key [] = false
+begins_with key (r ∷ rows) = has_key key r
+
+abbrev pub SkipKeyAnswers : (key : List ℕ) (old new : IteratorState) (result : Result (Unit {0}) SlateDBError) → Type 0
+SkipKeyAnswers key old new (Ok done) = new ≡ record old { rows = without_first (has_key key) old.rows }
+SkipKeyAnswers key old new (Err e) = Fails old.whole new e
+
+-- A call drops the rows at the front that have this key.
+pub record SkipsKey (key : List ℕ) (old new : IteratorState) (result : Result (Unit {0}) SlateDBError) : Type 0 where
+  pub failed : old.failure ≢ None → StaysFailed (Unit {0}) old new result
+  pub uninitialised : old.failure ≡ None → old.initialised ≡ false → StaysUninitialised (Unit {0}) old new result
+  pub answers : old.failure ≡ None → old.initialised ≡ true → SkipKeyAnswers key old new result
 
 -- A merge drops its rows below a key. If the flag is false, it is only known that the rows left rise.
 abbrev pub SkipsTo : (known : Bool) (order : IterationOrder) (key : List ℕ) (hs : List (Option RowEntry))

@@ -5,14 +5,14 @@ ghost use Rattle.std.specs.Option.{option_map};
 ghost use Rattle.std.specs.List.{range_with_len};
 ghost use Rattle.fleet_rows.specs.Row.{row_of};
 ghost use Rattle.fleet_rows.specs.declared.errors.SlateDBError.TheVariants as SlateDBError;
-ghost use Rattle.fleet_iter.specs.Merge.{best, found_row, hides, passes};
+ghost use Rattle.fleet_iter.specs.Merge.{best, found_row, has_key, hides, passes};
 ghost use Rattle.fleet_iter.specs.Heads.{HeadRows, refilled_heads};
 ghost use Rattle.fleet_iter.specs.Tracked.{row_bytes};
 
 use crate::merge::hides;
 use crate::tracked_bytes::row_bytes;
 use crate::{IterationOrder, MergeIteratorHeapEntry};
-use fleet_rows::{RowEntry, SlateDBError};
+use fleet_rows::{RowEntry, SlateDBError, same_key};
 use std::alloc::Global;
 use std::cmp::Reverse;
 use std::collections::BinaryHeap;
@@ -96,6 +96,17 @@ impl Heads {
     {
         match self.least() {
             Some((_, other)) => hides(row, other),
+            None => false,
+        }
+    }
+
+    /// Whether there is a least head and it has this key.
+    #[inline]
+    pub(crate) fn least_has(&self, key: &[u8]) -> bool
+        ensures { result ≡ passes (has_key key.now) (best self.now.order self.now.rows) }
+    {
+        match self.least() {
+            Some((_, row)) => same_key(key, row.key.as_slice()),
             None => false,
         }
     }

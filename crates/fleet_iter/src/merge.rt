@@ -4,9 +4,9 @@ ghost use Rattle.std.specs.Prelude.{◌≡◌, ◌≢◌, ◌++◌, map, true, f
 ghost use Rattle.std.specs.List.{AllByRecursion};
 ghost use Rattle.row_laws.specs.Keys.{is_below};
 ghost use Rattle.fleet_rows.specs.Row.{row_of};
-ghost use Rattle.fleet_iter.specs.Iteration.{IteratorState, Inits, Nexts, Seeks, CanFail, AreRising, from_key, is_exact};
+ghost use Rattle.fleet_iter.specs.Iteration.{IteratorState, Inits, Nexts, Seeks, CanFail, AreRising, from_key, is_exact, without_first};
 ghost use Rattle.fleet_iter.specs.declared.iterator.IterationOrder.TheVariants as in_order;
-ghost use Rattle.fleet_iter.specs.Merge.{cmp_in, hides, head_passes, AllTaken, Takes, Drops, NextGives, Skips, SkipsTo, NextGivesFrom, is_known, Begins, LeavesFrom, NoneFailed, IsHandedOn, starting, merged_lists, merged_left, rows_left, given_rows, are_whole, are_exact, MergesSort, MergesRise};
+ghost use Rattle.fleet_iter.specs.Merge.{cmp_in, has_key, begins_with, SkipsKey, hides, head_passes, AllTaken, Takes, Drops, NextGives, Skips, SkipsTo, NextGivesFrom, is_known, Begins, LeavesFrom, NoneFailed, IsHandedOn, starting, merged_lists, merged_left, rows_left, given_rows, are_whole, are_exact, MergesSort, MergesRise};
 ghost use Rattle.fleet_iter.specs.Tracked.{row_bytes, first_bytes, kept_back, counted_bytes, taken_at_once};
 ghost use Rattle.fleet_iter.specs.MergeState.{state_of, merge_of, IsSound};
 
@@ -297,6 +297,28 @@ fn skip_hidden<T: RowSource>(
     Ok(count)
 }
 
+// Drops the first rows that have a key.
+fn skip_rows_of<T: RowSource>(
+    alloc: Global,
+    sources: &mut Vec<T>,
+    heads: &mut Heads,
+    key: &[u8],
+) -> Result<(), SlateDBError>
+    requires taken { AllTaken heads.old.rows (map T.state sources.old.items) }
+    requires sound { AllByRecursion T.sound sources.old.items }
+    ensures ok { OnOk result (Skips heads.old.order (has_key key.now) heads.old.rows
+        (map T.state sources.old.items) heads.new.rows (map T.state sources.new.items)) }
+    ensures err { IfErr result (CanFail (are_whole (map T.state sources.old.items))) }
+    ensures handed { IfErr result (IsHandedOn (map T.state sources.new.items)) }
+    ensures order { heads.new.order ≡ heads.old.order }
+    ensures sound { AllByRecursion T.sound sources.new.items }
+{
+    'rows: while heads.least_has(key) {
+        drop_least(alloc, sources, heads)?;
+    }
+    Ok(())
+}
+
 // Takes the least head, and reads the next row of its source as its new head. It adds the bytes of
 // the head that it takes to the count.
 #[inline(always)]
@@ -459,6 +481,44 @@ impl<T: RowEntryIterator> MergeIterator<T> {
         ensures sound { IsSound T.sound T.state result }
     {
         MergeIterator { dedup, ..self }
+    }
+}
+
+impl<T: RowEntryIterator> MergeIterator<T> {
+    /// Whether the first row left has this key. False if no row is left.
+    #[inline]
+    pub fn begins_with(&self, key: &[u8]) -> bool
+        requires sound { IsSound T.sound T.state self.now }
+        requires alive { self.now.failure ≡ None }
+        requires initialised { self.now.initialised ≡ true }
+        ensures { result ≡ begins_with key.now (state_of T.state self.now).rows }
+    {
+        self.heads.least_has(key)
+    }
+
+    /// Drops the rows at the front that have this key, and counts none of them. It moves no row out.
+    pub fn skip_key(&mut self, alloc: Global, key: &[u8]) -> Result<(), SlateDBError>
+        requires { IsSound T.sound T.state self.old }
+        ensures skip { SkipsKey key.now
+            (state_of T.state self.old) (state_of T.state self.new) result }
+        ensures all { OnOk result (merge_of T.state self.new
+            ≡ without_first (has_key key.now) (merge_of T.state self.old)) }
+        ensures handed { self.old.failure ≡ None → self.old.initialised
+            ≡ true → IfErr result (IsHandedOn (map T.state self.new.sources.items)) }
+        ensures idle { self.old.failure ≢ None → self.new ≡ self.old }
+        ensures early { self.old.initialised ≡ false → self.new ≡ self.old }
+        ensures sound { IsSound T.sound T.state self.new }
+        ensures dedup { self.new.dedup ≡ self.old.dedup }
+        ensures processed { self.new.processed ≡ self.old.processed }
+    {
+        self.failure.check()?;
+        if !self.initialised {
+            return Err(SlateDBError::IteratorNotInitialized);
+        }
+        match skip_rows_of(alloc, &mut self.sources, &mut self.heads, key) {
+            Ok(()) => Ok(()),
+            Err(error) => Err(self.failure.fail(error)),
+        }
     }
 }
 
