@@ -354,3 +354,10 @@ dropped order hs hs' ss ss' o t = record { rows = by o t.rows t.ends; taken = t.
     by : (o : Option RowEntry) → merged_left order hs ss ≡ rows_of (option_to_list o) ++ merged_left order hs' ss' → (o ≡ None → (merged_left order hs ss ≡ []) × (are_whole ss ≡ true)) → merged_left order hs' ss' ≡ after_first (merged_left order hs ss)
     by None e ends = let none = (ends refl).0 in sym e ∙ (none ∙ sym (ap after_first none))
     by (Some x) e ends = sym (ap after_first e)
+
+-- At the place of the least head there is a source.
+pub source_within : {T : Type 0} (f : T → IteratorState) (order : IterationOrder) (hs : List (Option RowEntry)) (xs : List T) (k : ℕ) (x : RowEntry) → AllTaken hs (map f xs) → best order hs ≡ Some (k, x) → k < length (map f xs)
+source_within f order hs xs k x taken at =
+    let within = best_within order hs k x at in
+    let count = same_count hs (map f xs) taken in
+    omega (arith, within, count)

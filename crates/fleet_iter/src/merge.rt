@@ -297,6 +297,30 @@ fn skip_hidden<T: RowSource>(
     Ok(count)
 }
 
+// Drops the least head where it stands. The next row of its source becomes its new head.
+#[inline(always)]
+fn refill_least<T: RowSource>(
+    alloc: Global,
+    sources: &mut Vec<T>,
+    heads: &mut Heads,
+) -> Result<(), SlateDBError>
+    requires taken { AllTaken heads.old.rows (map T.state sources.old.items) }
+    requires sound { AllByRecursion T.sound sources.old.items }
+    ensures ok { OnOk result (Drops heads.old.order heads.old.rows
+        (map T.state sources.old.items) heads.new.rows (map T.state sources.new.items)) }
+    ensures err { IfErr result (CanFail (are_whole (map T.state sources.old.items))) }
+    ensures handed { IfErr result (IsHandedOn (map T.state sources.new.items)) }
+    ensures order { heads.new.order ≡ heads.old.order }
+    ensures sound { AllByRecursion T.sound sources.new.items }
+{
+    let Some((place, _)) = heads.least() else {
+        return Ok(());
+    };
+    let mut next = sources[place].next_row(alloc)?;
+    heads.swap_least(&mut next);
+    Ok(())
+}
+
 // Drops the first rows that have a key.
 fn skip_rows_of<T: RowSource>(
     alloc: Global,
@@ -314,7 +338,7 @@ fn skip_rows_of<T: RowSource>(
     ensures sound { AllByRecursion T.sound sources.new.items }
 {
     'rows: while heads.least_has(key) {
-        drop_least(alloc, sources, heads)?;
+        refill_least(alloc, sources, heads)?;
     }
     Ok(())
 }

@@ -12,19 +12,19 @@ rows-preserved g c =
     let order = c.rows.heads.order in
     let hs = c.rows.heads.rows in
     let ss = map f c.rows.sources.items in
-    let later = c.drop_least.new.heads.rows in
-    let left = map f c.drop_least.new.sources.items in
+    let later = c.refill_least.new.heads.rows in
+    let left = map f c.refill_least.new.sources.items in
     let test = has_key c.args.key.now in
     let is : passes test (best order hs) ≡ true = sym c.rows-test.ensures in
-    let d = c.in_ok-drop_least.ensures.ok in
+    let d = c.in_ok-refill_least.ensures.ok in
     let i = c.rows.invariant in
     let s = skip_step order test hs later ss left i.taken is d in
     let A : IterationOrder → _ = λ o. without_first test (merged_left o later left) ≡ without_first test (merged_left c.args.heads.now.order c.args.heads.now.rows (map f c.args.sources.now.items)) in
     record {
-      sound = c.in_ok-drop_least.ensures.sound;
+      sound = c.in_ok-refill_least.ensures.sound;
       taken = d.taken;
-      rows = subst A (sym c.in_ok-drop_least.ensures.order) (sym s.0 ∙ i.rows);
-      order = c.in_ok-drop_least.ensures.order ∙ i.order;
+      rows = subst A (sym c.in_ok-refill_least.ensures.order) (sym s.0 ∙ i.rows);
+      order = c.in_ok-refill_least.ensures.order ∙ i.order;
       same_manner = d.same_manner ∙ i.same_manner;
     }
 
@@ -34,12 +34,12 @@ rows-smaller g c =
     let order = c.rows.heads.order in
     let hs = c.rows.heads.rows in
     let ss = map f c.rows.sources.items in
-    let later = c.drop_least.new.heads.rows in
-    let left = map f c.drop_least.new.sources.items in
+    let later = c.refill_least.new.heads.rows in
+    let left = map f c.refill_least.new.sources.items in
     let test = has_key c.args.key.now in
     let is : passes test (best order hs) ≡ true = sym c.rows-test.ensures in
-    let s = skip_step order test hs later ss left c.rows.invariant.taken is c.in_ok-drop_least.ensures.ok in
-    subst (λ (o : IterationOrder). length (merged_left o later left) < length (merged_left order hs ss)) (sym c.in_ok-drop_least.ensures.order) s.1
+    let s = skip_step order test hs later ss left c.rows.invariant.taken is c.in_ok-refill_least.ensures.ok in
+    subst (λ (o : IterationOrder). length (merged_left o later left) < length (merged_left order hs ss)) (sym c.in_ok-refill_least.ensures.order) s.1
 
 pub returns-clause-ok : goal.returns-clause-ok
 returns-clause-ok g c =

@@ -1,23 +1,15 @@
-use Rattle.std.proofs.Common.{◌≡◌, ◌∙◌, ◌<◌, sym, ap, subst, length, arith, Some, Option, false, ℕ, List}
+use Rattle.std.proofs.Common.{◌≡◌, ◌∙◌, sym, ap, subst, length, arith, Some, Option, false, List}
 use Rattle.std.specs.Prelude.{map}
 use Rattle.std.specs.Option.{option_map}
 use Rattle.std.proofs.lemmas.Result.{err_from_is_err_and}
 use Rattle.std.proofs.lemmas.List.{map-set, length-map}
 use Rattle.std.proofs.Math.ListN.{set}
 use Rattle.fleet_iter.specs.Heads.{HeadRows, refilled_heads}
-use Rattle.fleet_iter.specs.Merge.{AllTaken, Takes, best}
+use Rattle.fleet_iter.specs.Merge.{Takes, best}
 use Rattle.fleet_iter.specs.Iteration.{IteratorState}
-use Rattle.fleet_iter.specs.declared.iterator.IterationOrder.{IterationOrder}
 use Rattle.fleet_rows.specs.declared.row.RowEntry.{RowEntry}
-use Rattle.fleet_iter.proofs.Merges.{same_count, best_within, taken_at, refused, refusal_marks, one_failed, state_at, takes_none, takes_all, steps_of, all_at}
+use Rattle.fleet_iter.proofs.Merges.{source_within, taken_at, refused, refusal_marks, one_failed, state_at, takes_none, takes_all, steps_of, all_at}
 use Rattle.fleet_iter.proofs.merge.take_least.Goals as goal
-
--- At the place of the least head there is a source.
-source_within : {T : Type 0} (f : T → IteratorState) (order : IterationOrder) (hs : List (Option RowEntry)) (xs : List T) (k : ℕ) (x : RowEntry) → AllTaken hs (map f xs) → best order hs ≡ Some (k, x) → k < length (map f xs)
-source_within f order hs xs k x taken at =
-    let within = best_within order hs k x at in
-    let count = same_count hs (map f xs) taken in
-    omega (arith, within, count)
 
 pub returns-in_default-clause-ok : goal.returns-in_default-clause-ok
 returns-in_default-clause-ok g c = takes_none _ _ _ c.requires.taken (sym c.in_default.ensures)
