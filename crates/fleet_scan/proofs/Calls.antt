@@ -4,8 +4,6 @@ use Rattle.std.specs.Prelude.{option_map, Result}
 use Rattle.row_model.specs.Fold.{Operator, Outcome}
 use Rattle.row_model.specs.Rows.{Row}
 use Rattle.fleet_iter.specs.Iteration.{IteratorState}
-use Rattle.fleet_fold.specs.Retention.{from_ahead}
-use Rattle.fleet_rows.specs.declared.row.RowEntry.{RowEntry}
 use Rattle.fleet_rows.specs.declared.errors.SlateDBError.{SlateDBError}
 use Rattle.fleet_rows.specs.declared.errors.SlateDBError.TheVariants.{IteratorFailed, Memory}
 use Rattle.fleet_scan.specs.Answered.{Scanning, Nexts, Takes, pair_of}
@@ -15,9 +13,9 @@ use Rattle.fleet_scan.specs.declared.answer.KeyAnswer.{KeyAnswer}
 use Rattle.fleet_scan.specs.declared.key_rows.ReadPoint.{ReadPoint}
 use Rattle.fleet_scan.proofs.Steps.{takes_answer}
 
-pub reads_on : (failed : Bool) (ahead : Option RowEntry) (rows : IteratorState) → failed ≡ false → Holds failed ahead rows → ReadsOn ahead rows
-reads_on true ahead rows is h = absurd (cc is)
-reads_on false ahead rows is h = h
+pub reads_on : (failed : Bool) (rows : IteratorState) → failed ≡ false → Holds failed rows → ReadsOn rows
+reads_on true rows is h = absurd (cc is)
+reads_on false rows is h = h
 
 -- A failed scan stays as it is.
 pub nexts_failed : (scan : Scanning) → scan.failed ≡ true → Nexts scan scan (Err IteratorFailed)
@@ -26,7 +24,7 @@ nexts_failed scan is = record {
   takes = λ e. let clash : true ≡ false = sym is ∙ e in absurd (cc clash);
 }
 
-module _ (merge : Operator) (point : ReadPoint) (failed : Bool) (ahead : Option RowEntry) (old : IteratorState) (value : Scanning) (is : scanning merge point ahead old failed ≡ value) where
+module _ (merge : Operator) (point : ReadPoint) (failed : Bool) (old : IteratorState) (value : Scanning) (is : scanning merge point old failed ≡ value) where
   stood : value.failed ≡ failed
   stood = sym (ap (λ (s : Scanning). s.failed) is)
 
@@ -40,16 +38,16 @@ module _ (merge : Operator) (point : ReadPoint) (failed : Bool) (ahead : Option 
       takes = λ e. takes;
     }
 
-    pub nexts_ok : (later : Option RowEntry) (new : IteratorState) (answer : Option KeyAnswer) → Gives merge point (from_ahead ahead old) (option_map pair_of answer) later new
-        → Nexts value (scanning merge point later new failed) (Ok answer)
-    nexts_ok later new answer gives = not_failed (scanning merge point later new failed) (Ok answer)
-        (subst (λ (b : Bool). Takes value (scanning merge point later new b) (Ok answer)) (sym alive)
-        (subst (λ (s : Scanning). Takes s (scanning merge point later new false) (Ok answer)) (ap (scanning merge point ahead old) (sym alive) ∙ is)
-        (takes_answer merge point ahead later old new answer gives)))
+    pub nexts_ok : (new : IteratorState) (answer : Option KeyAnswer) → Gives merge point old.rows (option_map pair_of answer) new
+        → Nexts value (scanning merge point new failed) (Ok answer)
+    nexts_ok new answer gives = not_failed (scanning merge point new failed) (Ok answer)
+        (subst (λ (b : Bool). Takes value (scanning merge point new b) (Ok answer)) (sym alive)
+        (subst (λ (s : Scanning). Takes s (scanning merge point new false) (Ok answer)) (ap (scanning merge point old) (sym alive) ∙ is)
+        (takes_answer merge point old new answer gives)))
 
     pub nexts_err : (new : Scanning) (e : SlateDBError) → new.failed ≡ true → e ≡ Memory → Nexts value new (Err e)
     nexts_err new e broken memory = not_failed new (Err e) (memory, broken)
 
-pub holds_after : (merge : Operator) (point : ReadPoint) (rows : List Row) (answer : Option (List ℕ × Outcome)) (failed : Bool) (later : Option RowEntry) (new : IteratorState)
-    → failed ≡ false → Gives merge point rows answer later new → Holds failed later new
-holds_after merge point rows answer failed later new alive gives = subst (λ (b : Bool). Holds b later new) (sym alive) (record { reading = gives.reading; ordered = gives.ordered })
+pub holds_after : (merge : Operator) (point : ReadPoint) (rows : List Row) (answer : Option (List ℕ × Outcome)) (failed : Bool) (new : IteratorState)
+    → failed ≡ false → Gives merge point rows answer new → Holds failed new
+holds_after merge point rows answer failed new alive gives = subst (λ (b : Bool). Holds b new) (sym alive) (record { reading = gives.reading; ordered = gives.ordered })

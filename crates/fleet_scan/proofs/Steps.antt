@@ -1,21 +1,22 @@
 -- What the steps of a scan do to the rows left and to their answers.
-use Rattle.std.proofs.Common.{◌≡◌, refl, sym, ◌∙◌, ap, subst, ℕ, ◌<◌, List, [], ◌∷◌, ◌++◌, length, Bool, true, false, Option, Some, None, append-nil, length-append, arith}
-use Rattle.std.specs.Prelude.{option_map, reverse, bytes_eq, Ok}
+use Rattle.std.proofs.Common.{◌≡◌, refl, sym, ◌∙◌, ap, subst, ℕ, ◌<◌, List, [], ◌∷◌, ◌++◌, cond, length, Bool, true, false, Option, Some, None, length-append, arith}
+use Rattle.std.specs.Prelude.{option_map, reverse, bytes_eq, Ok, not, ◌&&◌, if◌then◌else◌}
 use Rattle.std.specs.List.{cons_option}
+use Rattle.std.specs.Option.{option_to_list}
 use Rattle.std.specs.List.Sorted.{IsStrictlySortedBy}
 use Rattle.std.proofs.lemmas.List.{append_assoc}
 use Rattle.row_model.specs.Fold.{Operator, Outcome, fold_bytes}
 use Rattle.row_model.specs.Rows.{Row, IsStrictlyOrdered}
 use Rattle.row_laws.proofs.Elements.{all_append}
-use Rattle.fleet_iter.specs.Iteration.{IteratorState, Nexts, Ends}
-use Rattle.fleet_fold.specs.Retention.{from_ahead}
-use Rattle.fleet_rows.specs.Row.{row_of}
+use Rattle.fleet_iter.specs.Iteration.{IteratorState, Nexts, Ends, without_first}
+use Rattle.fleet_iter.specs.Merge.{SkipsKey, begins_with, has_key}
+use Rattle.fleet_rows.specs.Row.{row_of, rows_of}
 use Rattle.fleet_rows.specs.declared.row.RowEntry.{RowEntry}
 use Rattle.fleet_scan.specs.Answers.{answers_of, BeginsApart, HaveKey}
 use Rattle.fleet_scan.specs.Answered.{pair_of, Takes}
 use Rattle.fleet_scan.specs.KeyRows.{read_parts, base_of, base_over, is_hiding, operands_under, parts_with, IsBegun, Adds}
 use Rattle.fleet_scan.specs.ScanState.{scanning}
-use Rattle.fleet_scan.specs.Walk.{AddsAhead, IsReading, TakesFirst, TakesSoFar, TakesKey, GivesKey, Gives, goes_on}
+use Rattle.fleet_scan.specs.Walk.{IsReading, TakesFirst, TakesRow, TakesSoFar, TakesKey, GivesKey, Gives, takes_more}
 use Rattle.fleet_scan.specs.declared.answer.KeyAnswer.{KeyAnswer}
 use Rattle.fleet_scan.specs.declared.key_rows.Ground.{Ground}
 use Rattle.fleet_scan.specs.declared.key_rows.Ground.TheVariants as ground
@@ -35,77 +36,94 @@ reads_next s new rows is h = record {
 
 -- ---- the rows of a key
 
+both : (a b : Bool) → a && b ≡ true → b ≡ true
+both true b h = h
+both false b h = absurd (cc h)
+
+begins : (taken : KeyRows) (rows : List Row) → takes_more taken rows ≡ true → begins_with taken.key rows ≡ true
+begins taken rows is = both (not (is_hiding taken.ground)) (begins_with taken.key rows) is
+
 pub takes_none : (point : ReadPoint) (taken : KeyRows) (old : IteratorState) → TakesSoFar point taken old taken old
 takes_none point taken old = record { here = []; rows = refl; of_key = tt; key = refl; parts = λ later. refl }
 
-pub takes_one : (point : ReadPoint) (taken more all : KeyRows) (old s new : IteratorState) (row : RowEntry) → s.rows ≡ row_of row ∷ new.rows → bytes_eq more.key row.key ≡ true
-    → TakesSoFar point taken old more s → Adds point more (row_of row) all → TakesSoFar point taken old all new
-takes_one point taken more all old s new row next same h adds = record {
-  here = h.here ++ row_of row ∷ [];
-  rows = h.rows ∙ ap (λ (w : List Row). h.here ++ w) next ∙ sym (append_assoc h.here (row_of row ∷ []) new.rows);
-  of_key = all_append (λ (r : Row). bytes_eq taken.key r.key ≡ true) h.here (row_of row ∷ []) h.of_key (ap (λ k. bytes_eq k row.key) (sym h.key) ∙ same, tt);
-  key = adds.key ∙ h.key;
-  parts = λ later. adds.parts later ∙ h.parts (row_of row ∷ later) ∙ ap (parts_with point taken) (sym (append_assoc h.here (row_of row ∷ []) later));
+pub takes_one : (point : ReadPoint) (taken more all : KeyRows) (old s new : IteratorState) → takes_more more s.rows ≡ true → TakesSoFar point taken old more s → TakesRow point more s all new → TakesSoFar point taken old all new
+takes_one point taken more all old s new is h t = record {
+  here = h.here ++ t.row ∷ [];
+  rows = h.rows ∙ ap (λ (w : List Row). h.here ++ w) t.rows ∙ sym (append_assoc h.here (t.row ∷ []) new.rows);
+  of_key = all_append (λ (r : Row). bytes_eq taken.key r.key ≡ true) h.here (t.row ∷ []) h.of_key (ap (λ k. bytes_eq k t.row.key) (sym h.key) ∙ (ap (begins_with more.key) (sym t.rows) ∙ begins more s.rows is), tt);
+  key = t.adds.key ∙ h.key;
+  parts = λ later. t.adds.parts later ∙ h.parts (t.row ∷ later) ∙ ap (parts_with point taken) (sym (append_assoc h.here (t.row ∷ []) later));
 }
 
--- All rows of the key are taken.
-takes_all : (point : ReadPoint) (taken all : KeyRows) (old s new : IteratorState) (later : Option RowEntry) → s.rows ≡ from_ahead later new → BeginsApart all.key (from_ahead later new) → IsReading new
-    → TakesSoFar point taken old all s → TakesKey point taken old all later new
-takes_all point taken all old s new later left apart reading h = record {
-  here = h.here;
-  rows = h.rows ∙ ap (λ (w : List Row). h.here ++ w) left;
-  of_key = h.of_key;
-  ended = subst (λ (key : List ℕ). BeginsApart key (from_ahead later new)) h.key apart;
-  key = h.key;
-  parts = h.parts [] ∙ ap (parts_with point taken) (append-nil h.here);
-  reading = reading;
-}
+pub takes_fewer : (point : ReadPoint) (more all : KeyRows) (s new : IteratorState) → TakesRow point more s all new → length new.rows < length s.rows
+takes_fewer point more all s new t = let long : length s.rows ≡ length (t.row ∷ new.rows) = ap length t.rows in omega (arith, long)
 
-pub takes_up_to : (point : ReadPoint) (taken all : KeyRows) (old s new : IteratorState) (row : RowEntry) → s.rows ≡ row_of row ∷ new.rows → bytes_eq all.key row.key ≡ false → IsReading new
-    → TakesSoFar point taken old all s → TakesKey point taken old all (Some row) new
-takes_up_to point taken all old s new row next other reading h = takes_all point taken all old s new (Some row) next other reading h
+-- Where the next row has the key, one is left.
+pub more_left : (taken : KeyRows) (old new : IteratorState) (first : Option RowEntry) → takes_more taken old.rows ≡ true → TakesFirst old first new → first ≡ None → ⊥
+more_left taken old new first is takes none =
+    let gone : old.rows ≡ [] = takes.rows ∙ (ap (λ (o : Option RowEntry). rows_of (option_to_list o) ++ new.rows) none ∙ takes.ends none) in
+    let clash : false ≡ true = ap (begins_with taken.key) (sym gone) ∙ begins taken old.rows is in
+    cc clash
 
-pub takes_to_end : (point : ReadPoint) (taken all : KeyRows) (old s new : IteratorState) (later : Option RowEntry) → s.rows ≡ [] → new ≡ s → later ≡ None → IsReading new
-    → TakesSoFar point taken old all s → TakesKey point taken old all later new
-takes_to_end point taken all old s new later none same empty reading h =
-    let left : from_ahead later new ≡ [] = ap (λ (o : Option RowEntry). from_ahead o new) empty ∙ ap (λ (t : IteratorState). t.rows) same ∙ none in
-    takes_all point taken all old s new later (none ∙ sym left) (subst (BeginsApart all.key) (sym left) tt) reading h
+-- The first rows of a key, and the rows after them.
+abbrev first_of : List ℕ → List Row → List Row
+first_of key [] = []
+first_of key (r ∷ rows) = if has_key key r then r ∷ first_of key rows else []
 
--- ---- the rows that are read ahead
+split : (key : List ℕ) (rows : List Row) → rows ≡ first_of key rows ++ without_first (has_key key) rows
+split key [] = refl
+split key (r ∷ rows) = by (has_key key r) (split key rows)
+  where
+    by : (b : Bool) → rows ≡ first_of key rows ++ without_first (has_key key) rows → r ∷ rows ≡ cond b (r ∷ first_of key rows) [] ++ cond b (without_first (has_key key) rows) (r ∷ rows)
+    by true rest = ap (λ (w : List Row). r ∷ w) rest
+    by false rest = refl
 
--- A row under one that hides it is as good as taken.
-pub adds_hidden : (point : ReadPoint) (taken : KeyRows) (ahead : Option RowEntry) → is_hiding taken.ground ≡ true → AddsAhead point taken ahead taken
-adds_hidden point taken None hides = tt
-adds_hidden point taken (Some row) hides = record { key = refl; parts = λ later. hidden point taken later (row_of row ∷ later) hides }
+first_have : (key : List ℕ) (rows : List Row) → HaveKey key (first_of key rows)
+first_have key [] = tt
+first_have key (r ∷ rows) = by (has_key key r) refl (first_have key rows)
+  where
+    by : (b : Bool) → has_key key r ≡ b → HaveKey key (first_of key rows) → HaveKey key (cond b (r ∷ first_of key rows) [])
+    by true is rest = (is, rest)
+    by false is rest = tt
 
--- The first row after the key is read ahead, or none is left.
-pub ahead_ends : (point : ReadPoint) (taken all : KeyRows) (old s new : IteratorState) (later : Option RowEntry) → Nexts s new (Ok later) → goes_on all.key later ≡ false → IsReading s
-    → TakesSoFar point taken old all s → TakesKey point taken old all later new
-ahead_ends point taken all old s new None next apart reading h =
-    let ends : Ends s new = next.answers reading.readable.0 reading.readable.1 in
-    takes_to_end point taken all old s new None ends.rows ends.same refl (subst IsReading (sym ends.same) reading) h
-ahead_ends point taken all old s new (Some row) next apart reading h =
-    let is : s ≡ record new { rows = row_of row ∷ new.rows } = next.answers reading.readable.0 reading.readable.1 in
-    takes_up_to point taken all old s new row (ap (λ (t : IteratorState). t.rows) is) apart (reads_next s new (row_of row ∷ new.rows) is reading) h
+begins_apart : (key : List ℕ) (rows : List Row) → BeginsApart key (without_first (has_key key) rows)
+begins_apart key [] = tt
+begins_apart key (r ∷ rows) = by (has_key key r) refl (begins_apart key rows)
+  where
+    by : (b : Bool) → has_key key r ≡ b → BeginsApart key (without_first (has_key key) rows) → BeginsApart key (cond b (without_first (has_key key) rows) (r ∷ rows))
+    by true is rest = rest
+    by false is rest = is
 
--- A row of the key is read ahead and taken.
-pub ahead_taken : (point : ReadPoint) (taken more all : KeyRows) (old s new : IteratorState) (ahead : Option RowEntry) → Nexts s new (Ok ahead) → goes_on more.key ahead ≡ true → IsReading s
-    → TakesSoFar point taken old more s → AddsAhead point more ahead all → TakesSoFar point taken old all new
-ahead_taken point taken more all old s new None next same reading h adds = absurd (cc same)
-ahead_taken point taken more all old s new (Some row) next same reading h adds =
-    let is : s ≡ record new { rows = row_of row ∷ new.rows } = next.answers reading.readable.0 reading.readable.1 in
-    takes_one point taken more all old s new row (ap (λ (t : IteratorState). t.rows) is) same h adds
+none_first : (key : List ℕ) (rows : List Row) → begins_with key rows ≡ false → first_of key rows ≡ []
+none_first key [] is = refl
+none_first key (r ∷ rows) is = ap (λ b. cond b (r ∷ first_of key rows) []) is
 
-pub ahead_reads : (s new : IteratorState) (ahead : Option RowEntry) (key : List ℕ) → Nexts s new (Ok ahead) → goes_on key ahead ≡ true → IsReading s → IsReading new
-ahead_reads s new None key next same reading = absurd (cc same)
-ahead_reads s new (Some row) key next same reading = reads_next s new (row_of row ∷ new.rows) (next.answers reading.readable.0 reading.readable.1) reading
+-- The rows that are dropped change nothing of what a read finds.
+rest_hidden : (point : ReadPoint) (taken : KeyRows) (rows : List Row) → takes_more taken rows ≡ false → parts_with point taken [] ≡ parts_with point taken (first_of taken.key rows)
+rest_hidden point taken rows is = by (is_hiding taken.ground) refl
+  where
+    by : (b : Bool) → is_hiding taken.ground ≡ b → parts_with point taken [] ≡ parts_with point taken (first_of taken.key rows)
+    by true hides = hidden point taken [] (first_of taken.key rows) hides
+    by false open_ = ap (parts_with point taken) (sym (none_first taken.key rows (ap (λ b. not b && begins_with taken.key rows) (sym open_) ∙ is)))
 
-pub ahead_fewer : (s new : IteratorState) (ahead : Option RowEntry) (key : List ℕ) → Nexts s new (Ok ahead) → goes_on key ahead ≡ true → IsReading s → length new.rows < length s.rows
-ahead_fewer s new None key next same reading = absurd (cc same)
-ahead_fewer s new (Some row) key next same reading =
-    let is : s ≡ record new { rows = row_of row ∷ new.rows } = next.answers reading.readable.0 reading.readable.1 in
-    let long : length s.rows ≡ length (row_of row ∷ new.rows) = ap (λ (t : IteratorState). length t.rows) is in
-    omega (arith, long)
+-- Once no more row is taken, the other rows of the key are dropped.
+pub takes_rest : (point : ReadPoint) (taken all : KeyRows) (old s new : IteratorState) → takes_more all s.rows ≡ false → IsReading s → TakesSoFar point taken old all s → SkipsKey all.key s new (Ok tt) → TakesKey point taken old all new
+takes_rest point taken all old s new is reading h skips =
+    let left : new ≡ record s { rows = without_first (has_key all.key) s.rows } = skips.answers reading.readable.0 reading.readable.1 in
+    let rows : new.rows ≡ without_first (has_key all.key) s.rows = ap (λ (t : IteratorState). t.rows) left in
+    let dropped = first_of all.key s.rows in
+    record {
+      here = h.here ++ dropped;
+      rows = h.rows ∙ (ap (λ (w : List Row). h.here ++ w) (split all.key s.rows ∙ ap (λ (w : List Row). dropped ++ w) (sym rows)) ∙ sym (append_assoc h.here dropped new.rows));
+      of_key = all_append (λ (r : Row). bytes_eq taken.key r.key ≡ true) h.here dropped h.of_key (subst (λ (key : List ℕ). HaveKey key dropped) h.key (first_have all.key s.rows));
+      ended = subst (λ (key : List ℕ). BeginsApart key new.rows) h.key (subst (BeginsApart all.key) (sym rows) (begins_apart all.key s.rows));
+      key = h.key;
+      parts = rest_hidden point all s.rows is ∙ h.parts dropped;
+      reading = record {
+        readable = (ap (λ (t : IteratorState). t.failure) left ∙ reading.readable.0, ap (λ (t : IteratorState). t.initialised) left ∙ reading.readable.1);
+        whole = ap (λ (t : IteratorState). t.whole) left ∙ reading.whole;
+      };
+    }
 
 -- ---- the answer of a key
 
@@ -117,9 +135,9 @@ all_parts point all = by all.ground
     by (ground.Value bytes) = refl
     by ground.Nothing = refl
 
-module _ (merge : Operator) (point : ReadPoint) (first : Row) (taken all : KeyRows) (old new : IteratorState) (later : Option RowEntry) (begun : IsBegun point first taken) (takes : TakesKey point taken old all later new) (ordered : IsStrictlyOrdered (first ∷ old.rows)) where
+module _ (merge : Operator) (point : ReadPoint) (first : Row) (taken all : KeyRows) (old new : IteratorState) (begun : IsBegun point first taken) (takes : TakesKey point taken old all new) (ordered : IsStrictlyOrdered (first ∷ old.rows)) where
   abbrev rest : List Row
-  rest = from_ahead later new
+  rest = new.rows
 
   ordered_parts : IsStrictlyOrdered (first ∷ (takes.here ++ rest))
   ordered_parts = subst (λ (w : List Row). IsStrictlyOrdered (first ∷ w)) takes.rows ordered
@@ -134,7 +152,7 @@ module _ (merge : Operator) (point : ReadPoint) (first : Row) (taken all : KeyRo
   own = ap (folded all.key) parts ∙ ap (λ key. folded key (read_parts point (first ∷ takes.here))) (takes.key ∙ begun.key)
 
   -- The answer of the first key is that of a read of its rows.
-  pub gives_key : (answer : Option (List ℕ × Outcome)) → answer ≡ folded all.key (base_of all.ground, reverse all.operands.items) → GivesKey merge point (first ∷ old.rows) answer later new
+  pub gives_key : (answer : Option (List ℕ × Outcome)) → answer ≡ folded all.key (base_of all.ground, reverse all.operands.items) → GivesKey merge point (first ∷ old.rows) answer new
   gives_key answer is = record {
     answers = ap (λ (w : List Row). answers_of merge point.seq point.moment (first ∷ w)) takes.rows
         ∙ answers-first merge point.seq point.moment first takes.here rest ordered_parts (subst (λ (key : List ℕ). HaveKey key takes.here) begun.key takes.of_key) (subst (λ (key : List ℕ). BeginsApart key rest) begun.key takes.ended)
@@ -149,15 +167,12 @@ module _ (merge : Operator) (point : ReadPoint) (first : Row) (taken all : KeyRo
 
 -- ---- key after key
 
-pub first_rows : (ahead later : Option RowEntry) (s new : IteratorState) (first : RowEntry) → TakesFirst ahead s (Some first) later new → from_ahead ahead s ≡ row_of first ∷ new.rows
-first_rows ahead later s new first takes = takes.rows
+pub first_ordered : (s new : IteratorState) (first : RowEntry) → TakesFirst s (Some first) new → IsStrictlyOrdered s.rows → IsStrictlyOrdered (row_of first ∷ new.rows)
+first_ordered s new first takes ordered = subst IsStrictlyOrdered takes.rows ordered
 
-pub first_ordered : (ahead later : Option RowEntry) (s new : IteratorState) (first : RowEntry) → TakesFirst ahead s (Some first) later new → IsStrictlyOrdered (from_ahead ahead s) → IsStrictlyOrdered (row_of first ∷ new.rows)
-first_ordered ahead later s new first takes ordered = subst IsStrictlyOrdered takes.rows ordered
-
-pub fewer_rows : (merge : Operator) (point : ReadPoint) (ahead between later : Option RowEntry) (s t new : IteratorState) (first : RowEntry) (answer : Option (List ℕ × Outcome)) → TakesFirst ahead s (Some first) between t
-    → GivesKey merge point (row_of first ∷ t.rows) answer later new → length (from_ahead later new) < length (from_ahead ahead s)
-fewer_rows merge point ahead between later s t new first answer takes gives = subst (λ (w : List Row). length (from_ahead later new) < length w) (sym takes.rows) gives.fewer
+pub fewer_rows : (merge : Operator) (point : ReadPoint) (s t new : IteratorState) (first : RowEntry) (answer : Option (List ℕ × Outcome)) → TakesFirst s (Some first) t
+    → GivesKey merge point (row_of first ∷ t.rows) answer new → length new.rows < length s.rows
+fewer_rows merge point s t new first answer takes gives = subst (λ (w : List Row). length new.rows < length w) (sym takes.rows) gives.fewer
 
 nothing_ordered : IsStrictlyOrdered []
 unfolding IsStrictlySortedBy
@@ -168,41 +183,41 @@ module _ (merge : Operator) (point : ReadPoint) where
   answers rows = answers_of merge point.seq point.moment rows
 
   -- The answers so far are those of the rows left, and so they are after one more key.
-  pub next_key : (rows : List Row) (ahead between later : Option RowEntry) (s t new : IteratorState) (first : RowEntry) (answer : Option (List ℕ × Outcome)) → answers rows ≡ answers (from_ahead ahead s)
-      → TakesFirst ahead s (Some first) between t → GivesKey merge point (row_of first ∷ t.rows) answer later new → answers rows ≡ cons_option answer (answers (from_ahead later new))
-  next_key rows ahead between later s t new first answer same takes gives = same ∙ ap answers takes.rows ∙ gives.answers
+  pub next_key : (rows : List Row) (s t new : IteratorState) (first : RowEntry) (answer : Option (List ℕ × Outcome)) → answers rows ≡ answers s.rows
+      → TakesFirst s (Some first) t → GivesKey merge point (row_of first ∷ t.rows) answer new → answers rows ≡ cons_option answer (answers new.rows)
+  next_key rows s t new first answer same takes gives = same ∙ ap answers takes.rows ∙ gives.answers
 
-  pub next_gives : (rows : List Row) (ahead between later : Option RowEntry) (s t new : IteratorState) (first : RowEntry) (answer : Option (List ℕ × Outcome)) → answers rows ≡ answers (from_ahead ahead s)
-      → TakesFirst ahead s (Some first) between t → GivesKey merge point (row_of first ∷ t.rows) answer later new → (answer ≡ None → ⊥) → Gives merge point rows answer later new
-  next_gives rows ahead between later s t new first answer same takes gives some = record {
-    answers = next_key rows ahead between later s t new first answer same takes gives;
+  pub next_gives : (rows : List Row) (s t new : IteratorState) (first : RowEntry) (answer : Option (List ℕ × Outcome)) → answers rows ≡ answers s.rows
+      → TakesFirst s (Some first) t → GivesKey merge point (row_of first ∷ t.rows) answer new → (answer ≡ None → ⊥) → Gives merge point rows answer new
+  next_gives rows s t new first answer same takes gives some = record {
+    answers = next_key rows s t new first answer same takes gives;
     ordered = gives.ordered;
     ends = λ e. absurd (some e);
     reading = gives.reading;
   }
 
-  pub ends_gives : (rows : List Row) (ahead later : Option RowEntry) (s new : IteratorState) → answers rows ≡ answers (from_ahead ahead s) → TakesFirst ahead s None later new → Gives merge point rows None later new
-  ends_gives rows ahead later s new same takes =
-      let left : from_ahead later new ≡ [] = ap (λ (o : Option RowEntry). from_ahead o new) takes.none ∙ takes.ends refl in
+  pub ends_gives : (rows : List Row) (s new : IteratorState) → answers rows ≡ answers s.rows → TakesFirst s None new → Gives merge point rows None new
+  ends_gives rows s new same takes =
+      let left : new.rows ≡ [] = takes.ends refl in
       record {
-        answers = same ∙ ap answers (takes.rows ∙ takes.ends refl) ∙ sym (ap answers left);
+        answers = same ∙ ap answers (takes.rows ∙ left) ∙ sym (ap answers left);
         ordered = subst IsStrictlyOrdered (sym left) nothing_ordered;
         ends = λ e. left;
         reading = takes.reading;
       }
 
   -- What a call gives is the first answer left.
-  pub takes_answer : (ahead later : Option RowEntry) (old new : IteratorState) (answer : Option KeyAnswer) → Gives merge point (from_ahead ahead old) (option_map pair_of answer) later new
-      → Takes (scanning merge point ahead old false) (scanning merge point later new false) (Ok answer)
-  takes_answer ahead later old new None gives =
-      let left : from_ahead later new ≡ [] = gives.ends refl in
+  pub takes_answer : (old new : IteratorState) (answer : Option KeyAnswer) → Gives merge point old.rows (option_map pair_of answer) new
+      → Takes (scanning merge point old false) (scanning merge point new false) (Ok answer)
+  takes_answer old new None gives =
+      let left : new.rows ≡ [] = gives.ends refl in
       (gives.answers ∙ ap answers left, ap (λ left. record { left = left; failed = false }) (sym gives.answers))
-  takes_answer ahead later old new (Some answer) gives = ap (λ left. record { left = left; failed = false }) gives.answers
+  takes_answer old new (Some answer) gives = ap (λ left. record { left = left; failed = false }) gives.answers
 
 -- A key without an answer.
-pub none_mapped : (merge : Operator) (point : ReadPoint) (rows : List Row) (answer : Option KeyAnswer) (later : Option RowEntry) (new : IteratorState) → answer ≡ None
-    → GivesKey merge point rows (option_map pair_of answer) later new → GivesKey merge point rows None later new
-none_mapped merge point rows answer later new is gives = subst (λ (a : Option KeyAnswer). GivesKey merge point rows (option_map pair_of a) later new) is gives
+pub none_mapped : (merge : Operator) (point : ReadPoint) (rows : List Row) (answer : Option KeyAnswer) (new : IteratorState) → answer ≡ None
+    → GivesKey merge point rows (option_map pair_of answer) new → GivesKey merge point rows None new
+none_mapped merge point rows answer new is gives = subst (λ (a : Option KeyAnswer). GivesKey merge point rows (option_map pair_of a) new) is gives
 
 pub some_mapped : (answer : Option KeyAnswer) → (answer ≡ None → ⊥) → option_map pair_of answer ≡ None → ⊥
 some_mapped None some e = some refl

@@ -6,12 +6,12 @@ ghost use Rattle.row_model.specs.Rows.{is_reached};
 ghost use Rattle.fleet_rows.specs.Row.{content_of, row_of};
 ghost use Rattle.fleet_rows.specs.declared.errors.SlateDBError.TheVariants as SlateDBError;
 ghost use Rattle.fleet_scan.specs.Answered.{pair_of};
-ghost use Rattle.fleet_scan.specs.KeyRows.{Adds, IsBegun, Takes, base_of, ground_of, is_hiding};
+ghost use Rattle.fleet_scan.specs.KeyRows.{Adds, Takes, base_of, ground_of, is_hiding};
 
 use crate::KeyAnswer;
 use bytes::Bytes;
 use fleet_fold::BatchMerger;
-use fleet_rows::{MergeOperatorError, RowEntry, SlateDBError, ValueDeletable, same_key};
+use fleet_rows::{MergeOperatorError, RowEntry, SlateDBError, ValueDeletable};
 use std::alloc::{AllocError, Global};
 
 /// What a read asks for, beside the key. It sees the rows with at most this sequence, and rows are
@@ -94,26 +94,6 @@ impl KeyRows {
         }
     }
 
-    /// The key's newest row is taken.
-    pub(crate) fn new(
-        alloc: Global,
-        point: ReadPoint,
-        first: RowEntry,
-    ) -> Result<KeyRows, AllocError>
-        ensures { IfOk result (IsBegun point (row_of first)) }
-    {
-        let RowEntry {
-            key,
-            value,
-            seq,
-            create_ts: _,
-            expire_ts,
-        } = first;
-        let mut rows = KeyRows::none(alloc, key);
-        rows.take(point, value, seq, expire_ts)?;
-        Ok(rows)
-    }
-
     /// Whether a row that was taken hides all older ones.
     pub(crate) fn is_hiding(&self) -> bool
         ensures { result ≡ is_hiding self.now.ground }
@@ -124,12 +104,12 @@ impl KeyRows {
         }
     }
 
-    /// Whether a row has the key.
+    /// The key.
     #[inline]
-    pub(crate) fn has(&self, row: &RowEntry) -> bool
-        ensures { result ≡ bytes_eq self.now.key row.now.key }
+    pub(crate) fn key(&self) -> &[u8]
+        ensures { result.now ≡ self.now.key }
     {
-        same_key(self.key.as_slice(), row.key.as_slice())
+        self.key.as_slice()
     }
 
     /// Takes a row of the key that is older than all taken before.
@@ -166,9 +146,10 @@ impl KeyRows {
         folded(alloc, operator, key, base, operands)
     }
 
-    // Takes a row of the key with this content, sequence and expiry.
+    /// Takes a row of the key with this content, sequence and expiry. It is older than all rows taken
+    /// before.
     #[tactic(auto, using(crate::proofs::Parts::takes_unseen, crate::proofs::Parts::takes_hidden, crate::proofs::Parts::takes_expired, crate::proofs::Parts::takes_operand, crate::proofs::Parts::takes_value, crate::proofs::Parts::takes_tombstone))]
-    fn take(
+    pub(crate) fn take(
         &mut self,
         point: ReadPoint,
         value: ValueDeletable,

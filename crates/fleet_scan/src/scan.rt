@@ -15,7 +15,7 @@ use crate::open::ranged_merge;
 use fleet_fold::MergeOperator;
 use fleet_iter::MergeIterator;
 use fleet_range::BytesRange;
-use fleet_rows::{ListOf, RowEntry, SlateDBError};
+use fleet_rows::{ListOf, SlateDBError};
 use fleet_table::{RunData, RunIterator};
 use std::alloc::Global;
 use std::marker::Model;
@@ -33,8 +33,6 @@ pub struct Scan<'a, O: MergeOperator> {
     point: ReadPoint,
     // The rows of the range that are left, those of all sources in order.
     rows: MergeIterator<RunIterator<'a>>,
-    // The first row of the next key, if it was read ahead.
-    ahead: Option<RowEntry>,
     failed: bool,
 }
 
@@ -47,11 +45,11 @@ impl<'a, O: MergeOperator> Model for Scan<'a, O> {
 
     ghost Value = { Scanning };
 
-    ghost view = { λ s. scanning (O.merged (O.settings s.operator.now)) s.point s.ahead
+    ghost view = { λ s. scanning (O.merged (O.settings s.operator.now)) s.point
         (merge.state_of state_of s.rows) s.failed };
 
     ghost invariant = { λ s. merge.IsSound (λ _. ⊤) state_of s.rows
-        × Holds s.failed s.ahead (merge.state_of state_of s.rows) };
+        × Holds s.failed (merge.state_of state_of s.rows) };
 }
 
 impl<'a, O: MergeOperator> Scan<'a, O> {
@@ -78,7 +76,6 @@ impl<'a, O: MergeOperator> Scan<'a, O> {
             operator,
             point: ReadPoint { seq, moment: now },
             rows,
-            ahead: None,
             failed: false,
         })
     }
@@ -95,7 +92,7 @@ impl<O: MergeOperator> Scan<'_, O> {
             return Err(SlateDBError::IteratorFailed);
         }
         let point = self.point;
-        match next_answer(alloc, self.operator, point, &mut self.rows, &mut self.ahead) {
+        match next_answer(alloc, self.operator, point, &mut self.rows) {
             Ok(answer) => Ok(answer),
             Err(error) => {
                 self.failed = true;

@@ -41,6 +41,8 @@ mod scripts;
 #[cfg(test)]
 mod seeks;
 #[cfg(test)]
+mod skips;
+#[cfg(test)]
 mod spelt_rows;
 #[cfg(test)]
 mod stores;

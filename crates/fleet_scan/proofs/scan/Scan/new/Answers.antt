@@ -1,4 +1,4 @@
-use Rattle.std.proofs.Common.{◌∙◌, ap, None}
+use Rattle.std.proofs.Common.{◌∙◌, ap}
 use Rattle.std.specs.Int.{w64}
 use Rattle.std.specs.Prelude.{ℤ}
 use Rattle.std.proofs.lemmas.Int.{to_z-of_z}
@@ -6,7 +6,6 @@ use Rattle.fleet_iter.specs.MergeState as merge
 use Rattle.fleet_range.specs.Keys.{range_of}
 use Rattle.fleet_table.specs.Iterator.{state_of}
 use Rattle.fleet_exec.specs.Ranges.{Sources, reading}
-use Rattle.fleet_fold.specs.Retention.{from_ahead}
 use Rattle.fleet_scan.specs.Answers.{answers_of}
 use Rattle.fleet_scan.specs.Sources.{ranged_rows}
 use Rattle.fleet_scan.proofs.Ranged.{answers_are, reads_on}
@@ -24,5 +23,5 @@ returns-clause-answers g c =
     let merging = g.O.MergeOperator.merged (g.O.MergeOperator.settings c.args.operator.now) in
     let rows = merge.state_of state_of c.in_ok-rows.rows in
     let is = c.in_ok-rows.ensures.rows ∙ ap (λ (w : Sources). reading (ranged_rows range w)) c.as_slice.ensures in
-    ap (λ (moment : ℤ). answers_of merging c.args.seq moment (from_ahead None rows)) (to_z-of_z w64 c.args.now c.ranges.now)
+    ap (λ (moment : ℤ). answers_of merging c.args.seq moment rows.rows) (to_z-of_z w64 c.args.now c.ranges.now)
     ∙ answers_are range c.args.sources.now c.requires merging c.args.seq c.args.now rows is
