@@ -2,19 +2,18 @@
 use Rattle.std.proofs.Common.{◌≡◌, refl, sym, ◌∙◌, ap, subst, ℕ, ◌<◌, List, [], ◌∷◌, ◌++◌, cond, length, Bool, true, false, Option, Some, None, length-append, arith}
 use Rattle.std.specs.Prelude.{option_map, reverse, bytes_eq, Ok, not, ◌&&◌, if◌then◌else◌}
 use Rattle.std.specs.List.{cons_option}
-use Rattle.std.specs.Option.{option_to_list}
 use Rattle.std.specs.List.Sorted.{IsStrictlySortedBy}
 use Rattle.std.proofs.lemmas.List.{append_assoc}
 use Rattle.row_model.specs.Fold.{Operator, Outcome, fold_bytes}
 use Rattle.row_model.specs.Rows.{Row, IsStrictlyOrdered}
 use Rattle.row_laws.proofs.Elements.{all_append}
-use Rattle.fleet_iter.specs.Iteration.{IteratorState, Nexts, Ends, without_first}
+use Rattle.fleet_iter.specs.Iteration.{IteratorState, without_first}
 use Rattle.fleet_iter.specs.Merge.{SkipsKey, begins_with, has_key}
-use Rattle.fleet_rows.specs.Row.{row_of, rows_of}
+use Rattle.fleet_rows.specs.Row.{row_of}
 use Rattle.fleet_rows.specs.declared.row.RowEntry.{RowEntry}
 use Rattle.fleet_scan.specs.Answers.{answers_of, BeginsApart, HaveKey}
 use Rattle.fleet_scan.specs.Answered.{pair_of, Takes}
-use Rattle.fleet_scan.specs.KeyRows.{read_parts, base_of, base_over, is_hiding, operands_under, parts_with, IsBegun, Adds}
+use Rattle.fleet_scan.specs.KeyRows.{read_parts, base_of, base_over, is_hiding, operands_under, parts_with, IsBegun}
 use Rattle.fleet_scan.specs.ScanState.{scanning}
 use Rattle.fleet_scan.specs.Walk.{IsReading, TakesFirst, TakesRow, TakesSoFar, TakesKey, GivesKey, Gives, takes_more}
 use Rattle.fleet_scan.specs.declared.answer.KeyAnswer.{KeyAnswer}
@@ -57,13 +56,6 @@ takes_one point taken more all old s new is h t = record {
 
 pub takes_fewer : (point : ReadPoint) (more all : KeyRows) (s new : IteratorState) → TakesRow point more s all new → length new.rows < length s.rows
 takes_fewer point more all s new t = let long : length s.rows ≡ length (t.row ∷ new.rows) = ap length t.rows in omega (arith, long)
-
--- Where the next row has the key, one is left.
-pub more_left : (taken : KeyRows) (old new : IteratorState) (first : Option RowEntry) → takes_more taken old.rows ≡ true → TakesFirst old first new → first ≡ None → ⊥
-more_left taken old new first is takes none =
-    let gone : old.rows ≡ [] = takes.rows ∙ (ap (λ (o : Option RowEntry). rows_of (option_to_list o) ++ new.rows) none ∙ takes.ends none) in
-    let clash : false ≡ true = ap (begins_with taken.key) (sym gone) ∙ begins taken old.rows is in
-    cc clash
 
 -- The first rows of a key, and the rows after them.
 abbrev first_of : List ℕ → List Row → List Row

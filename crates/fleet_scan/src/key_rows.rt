@@ -1,6 +1,6 @@
 //! The rows of a key, newest first, and what a read of them answers.
 
-ghost use Rattle.std.specs.Prelude.{◌≡◌, ◌≢◌, ◌↔◌, [], reverse, IsTrue, OnOk, IfOk, IsOkUnless, option_map, bytes_eq};
+ghost use Rattle.std.specs.Prelude.{◌≡◌, ◌≢◌, ◌↔◌, [], reverse, IsTrue, OnOk, IfOk, IsOkUnless, option_map};
 ghost use Rattle.row_model.specs.Fold.{fold_bytes};
 ghost use Rattle.row_model.specs.Rows.{is_reached};
 ghost use Rattle.fleet_rows.specs.Row.{content_of, row_of};
