@@ -44,7 +44,10 @@ fn merges_skip_a_key(rt: HostRuntime) {
     ];
     for (lists, given_before, key, wanted) in cases {
         let rows = left(rt.alloc(), lists, given_before, key);
-        assert!(rt; are_spelt(rt.alloc(), rows, wanted), "{lists} {given_before} {key}");
+        assert!(rt;
+            are_spelt(rt.alloc(), rows, wanted),
+            "{lists} {given_before} {key}"
+        );
     }
 }
 
