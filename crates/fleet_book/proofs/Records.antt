@@ -1,10 +1,13 @@
 -- Records of jobs stay in the order of their ids, and a record is found and put at its place.
-use Rattle.std.proofs.Common.{sym, length, zero, ◌≡◌, refl, ◌∙◌, ap, subst, ℕ, suc, ◌+◌, ◌<◌, List, [], ◌∷◌, ◌++◌, take, drop, Bool, true, false, cond, arith}
+use Rattle.std.proofs.Common.{sym, length, zero, ◌≡◌, refl, ◌∙◌, ap, subst, ℕ, suc, ◌+◌, ◌<◌, ◌≤◌, List, [], ◌∷◌, ◌++◌, get_or, take, drop, Bool, true, false, cond, arith}
 use Rattle.std.specs.Prelude.{◌==◌, nat_lt, slice_get, slice_set, filter, take_while, Option, Some, None, IfSome, IsSome}
 use Rattle.std.specs.List.{AllByRecursion, prefix_len}
+use Rattle.std.specs.List.Sorted.{IsNonDecreasingBy, IsPartitionedBy, IsPartitionPoint}
 use Rattle.std.specs.Option.{option_map_or}
 use Rattle.std.proofs.lemmas.Bool.{eqb-true, eqb-false, ltb-false, ltb-true}
 use Rattle.std.proofs.lemmas.List.Folds.{length-prefix_len}
+use Rattle.std.proofs.lemmas.List.Sorted.{IsPartitionedBy-ltb}
+use Rattle.std.proofs.lemmas.List.Sums.{prefix_len_is}
 use Rattle.row_laws.proofs.Elements.{all_weaken}
 use Rattle.fleet_jobs.specs.Parts.JobParts.{JobParts}
 use Rattle.fleet_book.specs.Records.{AreRising, record_with, put_record}
@@ -87,9 +90,37 @@ put_is new (job ∷ jobs) = by (nat_lt job.id new.id) (put_is new jobs)
         ∙ ap (λ js. job ∷ js) rest
     by false rest = here (job.id == new.id)
 
--- The place that `jobs_below` gives.
-placed : (id place : ℕ) (jobs shown : List JobParts) → shown ≡ jobs → place ≡ length (take_while (λ job. nat_lt job.id id) shown) → place ≡ place_in id jobs
-placed id place jobs shown same at = at ∙ length-prefix_len (λ job. nat_lt job.id id) shown ∙ ap (place_in id) same
+-- ---- places by halves
+
+above_at : (x : ℕ) (jobs : List JobParts) (j : ℕ) (d : JobParts) → AllByRecursion (Above x) jobs → j < length jobs → x < (get_or jobs j d).id
+above_at x [] j d all low = absurd (omega (arith, low))
+above_at x (job ∷ jobs) zero d all low = all.0
+above_at x (job ∷ jobs) (suc j) d all low = above_at x jobs j d all.1 (omega (arith, low))
+
+ids_rise : (jobs : List JobParts) → AreRising jobs → IsNonDecreasingBy (λ job. job.id) jobs
+ids_rise [] up i j d le low = absurd (omega (arith, low))
+ids_rise (job ∷ jobs) up zero zero d le low = omega arith
+ids_rise (job ∷ jobs) up zero (suc j) d le low = let above = above_at job.id jobs j d up.0 (omega (arith, low)) in omega (arith, above)
+ids_rise (job ∷ jobs) up (suc i) zero d le low = absurd (omega (arith, le))
+ids_rise (job ∷ jobs) up (suc i) (suc j) d le low = ids_rise jobs up.1 i j d (omega (arith, le)) (omega (arith, low))
+
+-- Jobs with smaller ids stand in front of the others.
+pub are_parted : (id : ℕ) (jobs : List JobParts) → AreRising jobs → IsPartitionedBy (λ job. nat_lt job.id id) jobs
+are_parted id jobs up = IsPartitionedBy-ltb (λ job. job.id) jobs id (ids_rise jobs up)
+
+-- The place where they end is their number.
+pub parted_at : (id place : ℕ) (jobs : List JobParts) → place ≤ length jobs → IsPartitionPoint (λ job. nat_lt job.id id ≡ true) (λ job. nat_lt job.id id ≡ false) jobs place
+    → place ≡ length (take_while (λ job. nat_lt job.id id) jobs)
+parted_at id place [] most point = omega (arith, most)
+parted_at id place (job ∷ jobs) most point =
+    let smaller : JobParts → Bool = λ other. nat_lt other.id id in
+    sym (length-prefix_len smaller (job ∷ jobs) ∙ prefix_len_is smaller (job ∷ jobs) place job most (λ k below. point.0 k job (omega arith) below) (λ below. point.1 place job (omega arith) below))
+
+-- ---- a record is put at its place
+
+-- The place that `place_of` gives.
+placed : (id place : ℕ) (jobs : List JobParts) → place ≡ length (take_while (λ job. nat_lt job.id id) jobs) → place ≡ place_in id jobs
+placed id place jobs at = at ∙ length-prefix_len (λ job. nat_lt job.id id) jobs
 
 put_found : (new : JobParts) (jobs : List JobParts) (id : ℕ) (there : Bool) (got : Option JobParts) → id ≡ new.id → got ≡ slice_get jobs (place_in id jobs) → there ≡ has_id id got
     → put_at there (place_in id jobs) new jobs ≡ put_record new jobs
@@ -99,11 +130,11 @@ put_found new jobs id there got own looked found =
     ∙ put_is new jobs
 
 -- Putting the record at the place that was looked up makes what `put_record` makes.
-pub put_by : (new : JobParts) (jobs shown made : List JobParts) (id place : ℕ) (there b : Bool) (got : Option JobParts)
-    → id ≡ new.id → shown ≡ jobs → place ≡ length (take_while (λ job. nat_lt job.id id) shown) → got ≡ slice_get jobs place → there ≡ has_id id got → there ≡ b
+pub put_by : (new : JobParts) (jobs made : List JobParts) (id place : ℕ) (there b : Bool) (got : Option JobParts)
+    → id ≡ new.id → place ≡ length (take_while (λ job. nat_lt job.id id) jobs) → got ≡ slice_get jobs place → there ≡ has_id id got → there ≡ b
     → made ≡ put_at b place new jobs → made ≡ put_record new jobs
-put_by new jobs shown made id place there b got own same at looked found is makes =
-    let low = placed id place jobs shown same at in
+put_by new jobs made id place there b got own at looked found is makes =
+    let low = placed id place jobs at in
     makes ∙ ap (λ n. put_at b n new jobs) low ∙ put_found new jobs id b got own (looked ∙ ap (slice_get jobs) low) (sym is ∙ found)
 
 -- No record has an id below all of them.
@@ -115,13 +146,39 @@ none_there id (job ∷ jobs) all = by (job.id == id) refl (none_there id jobs al
     by true f rest = let same = eqb-true job.id id f in let high = all.0 in absurd (omega (arith, same, high))
     by false f rest = rest
 
-has_its_id : (id : ℕ) (job : JobParts) (jobs : List JobParts) → record_with id jobs ≡ Some job → has_id id (Some job) ≡ true
+pub has_its_id : (id : ℕ) (job : JobParts) (jobs : List JobParts) → record_with id jobs ≡ Some job → has_id id (Some job) ≡ true
 has_its_id id job [] found = absurd (cc found)
 has_its_id id job (first ∷ jobs) found = by (first.id == id) refl found (λ later. has_its_id id job jobs later)
   where
     by : (c : Bool) → (first.id == id) ≡ c → cond c (Some first) (record_with id jobs) ≡ Some job → (record_with id jobs ≡ Some job → (job.id == id) ≡ true) → (job.id == id) ≡ true
     by true f is rest = let same : first ≡ job = cc is in sym (ap (λ j. j.id == id) same) ∙ f
     by false f is rest = rest is
+
+-- The record at the place of an id, if it has the id.
+abbrev its : ℕ → Option JobParts → Option JobParts
+its id got = cond (has_id id got) got None
+
+-- A record is there exactly if the record at the place of its id has the id.
+looked_at : (id : ℕ) (jobs : List JobParts) → AreRising jobs → its id (slice_get jobs (place_in id jobs)) ≡ record_with id jobs
+looked_at id [] up = refl
+looked_at id (first ∷ jobs) up =
+    by (nat_lt first.id id) (first.id == id) refl refl (looked_at id jobs up.1) (λ low. none_there id jobs (all_weaken (Above first.id) (Above id) (λ other high. omega arith) jobs up.0))
+  where
+    got : slice_get (first ∷ jobs) (1 + place_in id jobs) ≡ slice_get jobs (place_in id jobs)
+    got = let e : 1 + place_in id jobs ≡ suc (place_in id jobs) = omega arith in ap (slice_get (first ∷ jobs)) e
+
+    by : (b c : Bool) → nat_lt first.id id ≡ b → (first.id == id) ≡ c → its id (slice_get jobs (place_in id jobs)) ≡ record_with id jobs → (id < first.id → record_with id jobs ≡ None)
+        → its id (slice_get (first ∷ jobs) (cond b (1 + place_in id jobs) 0)) ≡ cond c (Some first) (record_with id jobs)
+    by true true e f rest none = let low = ltb-true first.id id e in let same = eqb-true first.id id f in absurd (omega (arith, low, same))
+    by true false e f rest none = ap (its id) got ∙ rest
+    by false true e f rest none = ap (λ c. cond c (Some first) None) f
+    by false false e f rest none = ap (λ c. cond c (Some first) None) f ∙ sym (none (above first.id id e (eqb-false first.id id f)))
+
+-- A record is looked up at the place of its id.
+pub looked_by : (id place : ℕ) (jobs : List JobParts) (there b : Bool) (got : Option JobParts) → AreRising jobs → place ≡ length (take_while (λ job. nat_lt job.id id) jobs)
+    → got ≡ slice_get jobs place → there ≡ has_id id got → there ≡ b → cond b got None ≡ record_with id jobs
+looked_by id place jobs there b got up at looked found is =
+    ap (λ t. cond t got None) (sym is ∙ found) ∙ ap (its id) (looked ∙ ap (slice_get jobs) (placed id place jobs at)) ∙ looked_at id jobs up
 
 -- A record that is there is found at the place that is looked up.
 found_at : (id : ℕ) (job : JobParts) (jobs : List JobParts) → AreRising jobs → record_with id jobs ≡ Some job → slice_get jobs (place_in id jobs) ≡ Some job
@@ -177,19 +234,19 @@ there id jobs up some = by (record_with id jobs) refl some
           },
         )
 
--- A record is looked up by its id, in the jobs of a map. The map shows its jobs as `now`, and gives a slice of them.
-module _ (id place : ℕ) (jobs now shown : List JobParts) (seen : jobs ≡ now) (up : AreRising jobs) (same : shown ≡ jobs) (at : place ≡ length (take_while (λ job. nat_lt job.id id) shown)) where
+-- A record is looked up by its id, in the jobs of a map. The map shows its jobs as `now`.
+module _ (id place : ℕ) (jobs now : List JobParts) (seen : jobs ≡ now) (up : AreRising jobs) (at : place ≡ length (take_while (λ job. nat_lt job.id id) jobs)) where
   looked_up : (key : ℕ) → id ≡ key → IsSome (record_with key now) → (job : JobParts) × IsThere id jobs job
   looked_up key own some = there id jobs up (subst (λ k. IsSome (record_with k jobs)) (sym own) (subst (λ js. IsSome (record_with key js)) (sym seen) some))
 
   -- The place of a record that is there is a place of the list.
   pub place_fits : (key : ℕ) → id ≡ key → IsSome (record_with key now) → place < length jobs
-  place_fits key own some = subst (λ n. n < length jobs) (sym (placed id place jobs shown same at)) (looked_up key own some).1.low
+  place_fits key own some = subst (λ n. n < length jobs) (sym (placed id place jobs at)) (looked_up key own some).1.low
 
   -- A record that is there is replaced by one with its id.
   pub is_replaced : (new : JobParts) (made : List JobParts) → id ≡ new.id → IsSome (record_with new.id now) → made ≡ slice_set jobs place new → AreRising made × (made ≡ put_record new now)
   is_replaced new made own some set =
-      let put = set ∙ ap (λ n. slice_set jobs n new) (placed id place jobs shown same at) ∙ (looked_up new.id own some).1.replaced new own in
+      let put = set ∙ ap (λ n. slice_set jobs n new) (placed id place jobs at) ∙ (looked_up new.id own some).1.replaced new own in
       (subst AreRising (sym put) (rising_put new jobs up), put ∙ ap (put_record new) seen)
 
   -- A record that is there is changed, and keeps its id.
@@ -199,7 +256,7 @@ module _ (id place : ℕ) (jobs now shown : List JobParts) (seen : jobs ≡ now)
   is_changed change made keeps some set =
       let known = looked_up id refl some in
       let job = known.0 in
-      let low = placed id place jobs shown same at in
+      let low = placed id place jobs at in
       let set_there = subst (λ o. IfSome o (λ job. made ≡ slice_set jobs place (change job))) (ap (slice_get jobs) low ∙ known.1.found) set in
       let put = set_there ∙ ap (λ n. slice_set jobs n (change job)) low ∙ known.1.replaced (change job) (sym (keeps job ∙ known.1.own)) in
       let is = sym (ap (record_with id) seen) ∙ known.1.is in (

@@ -1,6 +1,6 @@
 //! The records of all jobs.
 
-ghost use Rattle.std.specs.Prelude.{◌≡◌, ◌==◌, ◌<◌, ◌++◌, [], ◌∷◌, ◌||◌, if◌then◌else◌, None, Some, false, filter, find, fold, length, nat_lt, slice_get, slice_set, take_while, IfOk, IfSome, IsSome, IsOkUnless, OnErr, OnOk};
+ghost use Rattle.std.specs.Prelude.{◌≡◌, ◌==◌, ◌<◌, ◌++◌, [], ◌∷◌, ◌||◌, if◌then◌else◌, None, Some, false, filter, fold, length, nat_lt, slice_get, slice_set, take_while, IfOk, IfSome, IsSome, IsOkUnless, OnErr, OnOk};
 ghost use Rattle.std.specs.Cmp.Lexicographic.{pointwise, lists_per, lists_equiv};
 ghost use Rattle.std.specs.Option.{option_copied, option_map_or};
 ghost use Rattle.fleet_model.specs.Jobs.{put_job, trimmed_jobs};
@@ -78,7 +78,7 @@ impl JobMap {
     pub fn get(&self, id: &Ulid) -> Option<&Compaction>
         ensures { option_copied result ≡ record_with id.now self.now }
     {
-        with_id(self.jobs.as_slice(), *id)
+        with_id(&self.jobs, *id)
     }
 
     /// The jobs, by rising id.
@@ -147,7 +147,7 @@ impl JobMap {
         ensures { IfSome (record_with id.now self.old)
             (λ job. self.new ≡ put_record (with_status status job) self.old) }
     {
-        let place = jobs_below(self.jobs.as_slice(), *id);
+        let place = place_of(&self.jobs, *id);
         set_status_at(&mut self.jobs, place, status);
     }
 
@@ -157,7 +157,7 @@ impl JobMap {
         requires { IsSome (record_with job.id self.old) }
         ensures { self.new ≡ put_record job self.old }
     {
-        let place = jobs_below(self.jobs.as_slice(), job.id());
+        let place = place_of(&self.jobs, job.id());
         self.jobs.replace(place as u64, job);
     }
 
@@ -197,20 +197,24 @@ impl Eq for JobMap {
     ghost laws = { lists_equiv job_equiv.laws-law };
 }
 
-fn with_id(jobs: &[Compaction], id: Ulid) -> Option<&Compaction>
-    ensures { option_copied result ≡ find (λ job. job.id == id) jobs.now }
+// The job with this id, if there is one.
+fn with_id(jobs: &ListOf<Compaction>, id: Ulid) -> Option<&Compaction>
+    requires { AreRising jobs.now }
+    ensures { option_copied result ≡ record_with id jobs.now }
 {
-    jobs.iter().find(|job| job.id() == id)
+    let job = jobs.get(place_of(jobs, id) as u64);
+    if has_id(job, id) { job } else { None }
 }
 
 // Puts a job in the place of one with its id, or before the first one with a greater id.
 fn put(jobs: &mut ListOf<Compaction>, job: Compaction) -> Result<(), SlateDBError>
+    requires { AreRising jobs.old }
     ensures ok { OnOk result (jobs.new ≡ put_record job jobs.old) }
     ensures err { OnErr result (jobs.new ≡ jobs.old) }
     ensures memory { IsOkUnless result SlateDBError.Memory }
 {
     let id = job.id();
-    let place = jobs_below(jobs.as_slice(), id) as u64;
+    let place = place_of(jobs, id) as u64;
     if has_id(jobs.get(place), id) {
         jobs.replace(place, job);
         Ok(())
@@ -238,10 +242,12 @@ fn has_id(job: Option<&Compaction>, id: Ulid) -> bool
     }
 }
 
-fn jobs_below(jobs: &[Compaction], id: Ulid) -> usize
+// The number of jobs with smaller ids. It is found by halves, so that few jobs are looked at.
+fn place_of(jobs: &ListOf<Compaction>, id: Ulid) -> usize
+    requires { AreRising jobs.now }
     ensures { result ≡ length (take_while (λ job. nat_lt job.id id) jobs.now) }
 {
-    jobs.iter().take_while(|job| job.id() < id).count()
+    jobs.as_slice().partition_point(|job| job.id() < id)
 }
 
 // The id of the last job that is over.
