@@ -3,6 +3,7 @@ pub mod Kept
 pub mod Merged
 pub mod Trimmed
 pub mod Finishes
+pub mod Named
 pub mod ModelFinishes
 pub mod ModelMerges
 pub mod Repeated

@@ -2,10 +2,10 @@
 
 ghost use Rattle.std.specs.Prelude.{◌≡◌, ◌==◌, ◌++◌, ◌∷◌, [], filter, find, length, map, nat_lt, not, take_while, IfOk, IsOkUnless, OnOk};
 ghost use Rattle.std.specs.Option.{option_copied};
-ghost use Rattle.fleet_model.specs.Nodes.{L0, Run, name_eq};
+ghost use Rattle.fleet_model.specs.Nodes.{L0};
 ghost use Rattle.fleet_book.specs.Finishes.{core_after, finished_tree, horizon_by, is_named, kept_runs, kept_views, mark_after, put_run, segment_after, tree_after, with_output};
-ghost use Rattle.fleet_jobs.specs.Sources.{name_of};
 
+use crate::sources::Sources;
 use bytes::Bytes;
 use fleet_jobs::{Compaction, CompactionSpec, CompactionStatus, SourceId};
 use fleet_rows::{SlateDBError, Ulid};
@@ -111,19 +111,20 @@ fn finished_tree(
         ≡ finished_tree sources.now (option_copied output.entry) tree.now) }
     ensures memory { IsOkUnless result SlateDBError.Memory }
 {
-    let views = kept_views(alloc, sources, &tree.l0)?;
-    let mut runs = kept_runs(alloc, sources, tree.compacted.as_slice())?;
+    let named = Sources::new(alloc, sources)?;
+    let views = kept_views(alloc, &named, &tree.l0)?;
+    let mut runs = kept_runs(alloc, &named, tree.compacted.as_slice())?;
     add_output(&mut runs, output)?;
     Ok(LsmTreeState {
         l0: FlushList::from_vec(alloc, views)?,
         compacted: RunList::from_vec(alloc, runs)?,
-        last_compacted_l0_sst_view_id: mark_after(sources, tree),
+        last_compacted_l0_sst_view_id: mark_after(&named, tree),
         last_seq: tree.last_seq,
     })
 }
 
 // The newest flush among the sources, or the old watermark if no source is a flush of the tree.
-fn mark_after(sources: &[SourceId], tree: &LsmTreeState) -> Option<Ulid>
+fn mark_after(sources: &Sources<'_>, tree: &LsmTreeState) -> Option<Ulid>
     ensures { result ≡ mark_after sources.now tree.now }
 {
     match newest_named(sources, &tree.l0) {
@@ -132,11 +133,11 @@ fn mark_after(sources: &[SourceId], tree: &LsmTreeState) -> Option<Ulid>
     }
 }
 
-fn newest_named<'a>(sources: &[SourceId], views: &'a FlushList) -> Option<&'a SsTableView>
+fn newest_named<'a>(sources: &Sources<'_>, views: &'a FlushList) -> Option<&'a SsTableView>
     ensures { option_copied result ≡ find (λ view. is_named sources.now (L0 view.id)) views.now }
 {
     'views: for view in views.iter() {
-        if names_view(sources, view.id) {
+        if sources.has_view(view.id) {
             return Some(view);
         }
     }
@@ -146,7 +147,7 @@ fn newest_named<'a>(sources: &[SourceId], views: &'a FlushList) -> Option<&'a Ss
 // Copies of the flushes that are no sources.
 fn kept_views(
     alloc: Global,
-    sources: &[SourceId],
+    sources: &Sources<'_>,
     views: &FlushList,
 ) -> Result<Vec<SsTableView>, AllocError>
     ensures { IfOk result (λ kept. kept.items ≡ kept_views sources.now views.now) }
@@ -161,13 +162,13 @@ fn kept_views(
 // Adds a copy of the flush, unless it is a source.
 fn keep_view(
     kept: &mut Vec<SsTableView>,
-    sources: &[SourceId],
+    sources: &Sources<'_>,
     view: &SsTableView,
 ) -> Result<(), AllocError>
     ensures { OnOk result
         (kept.new.items ≡ kept.old.items ++ kept_views sources.now (view.now ∷ [])) }
 {
-    if !names_view(sources, view.id) {
+    if !sources.has_view(view.id) {
         kept.push(Clone::clone(view)?)?;
     }
     Ok(())
@@ -176,7 +177,7 @@ fn keep_view(
 // Copies of the runs that are no sources.
 fn kept_runs(
     alloc: Global,
-    sources: &[SourceId],
+    sources: &Sources<'_>,
     runs: &[SortedRun],
 ) -> Result<Vec<SortedRun>, AllocError>
     ensures { IfOk result (λ kept. kept.items ≡ kept_runs sources.now runs.now) }
@@ -191,13 +192,13 @@ fn kept_runs(
 // Adds a copy of the run, unless it is a source.
 fn keep_run(
     kept: &mut Vec<SortedRun>,
-    sources: &[SourceId],
+    sources: &Sources<'_>,
     run: &SortedRun,
 ) -> Result<(), AllocError>
     ensures { OnOk result
         (kept.new.items ≡ kept.old.items ++ kept_runs sources.now (run.now ∷ [])) }
 {
-    if !names_run(sources, run.id) {
+    if !sources.has_run(run.id) {
         kept.push(Clone::clone(run)?)?;
     }
     Ok(())
@@ -226,34 +227,4 @@ fn runs_from(runs: &[SortedRun], id: u32) -> usize
     ensures { result ≡ length (take_while (λ run. not (nat_lt run.id id)) runs.now) }
 {
     runs.iter().take_while(|run| run.id >= id).count()
-}
-
-fn names_view(sources: &[SourceId], id: Ulid) -> bool
-    ensures { result ≡ is_named sources.now (L0 id) }
-{
-    sources.iter().any(|source| is_view(source, id))
-}
-
-fn is_view(source: &SourceId, id: Ulid) -> bool
-    ensures { result ≡ name_eq (name_of source.now) (L0 id) }
-{
-    match source {
-        SourceId::SortedRun(_) => false,
-        SourceId::SstView(view) => *view == id,
-    }
-}
-
-fn names_run(sources: &[SourceId], id: u32) -> bool
-    ensures { result ≡ is_named sources.now (Run id) }
-{
-    sources.iter().any(|source| is_run(source, id))
-}
-
-fn is_run(source: &SourceId, id: u32) -> bool
-    ensures { result ≡ name_eq (name_of source.now) (Run id) }
-{
-    match source {
-        SourceId::SortedRun(run) => *run == id,
-        SourceId::SstView(_) => false,
-    }
 }

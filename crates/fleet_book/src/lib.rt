@@ -8,6 +8,7 @@ mod laws;
 mod merging;
 mod recent;
 mod request;
+mod sources;
 mod state;
 mod view;
 
