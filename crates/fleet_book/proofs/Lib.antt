@@ -1,6 +1,7 @@
 pub mod Records
 pub mod Kept
 pub mod Merged
+pub mod Shown
 pub mod Trimmed
 pub mod Finishes
 pub mod Named

@@ -3,6 +3,7 @@ pub mod VersionedRecords
 pub mod Versions
 pub mod Requests
 pub mod StateParts
+pub mod Shown
 pub mod States
 pub mod Finishes
 pub mod Laws

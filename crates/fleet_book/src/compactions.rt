@@ -160,6 +160,23 @@ impl VersionedCompactions {
         self.compactions.jobs.set_status(id, status);
     }
 
+    /// Puts a job, in the place of one with its id if there is one, and takes over the version and
+    /// the epoch of other records.
+    pub(crate) fn show(
+        &mut self,
+        own: &VersionedCompactions,
+        job: Compaction,
+    ) -> Result<(), SlateDBError>
+        ensures ok { OnOk result
+            (self.new ≡ with_jobs (put_record job self.old.compactions.jobs) own.now) }
+        ensures memory { IsOkUnless result SlateDBError.Memory }
+    {
+        self.compactions.jobs.insert(job)?;
+        self.compactions.compactor_epoch = own.compactor_epoch();
+        self.id = own.id();
+        Ok(())
+    }
+
     /// The jobs, by rising id.
     pub fn recent_compactions(&self) -> RecentCompactions<'_>
         ensures jobs { result ≡ self.now.compactions.jobs }

@@ -9,7 +9,8 @@ ghost use Rattle.fleet_jobs.specs.Parts.JobParts.{JobParts};
 ghost use Rattle.fleet_book.specs.Finishes.{finished_state, merged_manifest};
 ghost use Rattle.fleet_jobs.specs.Places.{sources_stand};
 ghost use Rattle.fleet_jobs.specs.Jobs.{is_open, job_of, jobs_of, with_status};
-ghost use Rattle.fleet_book.specs.Records.{put_record, record_with};
+ghost use Rattle.fleet_book.specs.Records.{AreRising, put_record, record_with};
+ghost use Rattle.fleet_book.specs.Shown.{ShowedRecords, Shows, ShowsRecords};
 ghost use Rattle.fleet_jobs.specs.Specs.{destination_of, segment_of, spec_of};
 ghost use Rattle.fleet_book.specs.States.{is_taken, merged_jobs, merged_records, own_jobs, takes, with_stored};
 ghost use Rattle.fleet_jobs.specs.Status.{status_of};
@@ -74,6 +75,26 @@ impl CompactorState {
             manifest: self.manifest.clone()?,
             compactions: Some(active(alloc, &self.compactions)?),
         })
+    }
+
+    /// Brings a view up to date that showed this state when each job but the one with this id was
+    /// as it is now. The view gets the manifest, and a copy of this job. So the other jobs are not
+    /// copied again. A job that is over now stays in the view, where it counts for nothing. If out
+    /// of memory, the view has to be given up.
+    pub fn refresh(
+        &self,
+        alloc: Global,
+        view: &mut CompactorStateView,
+        id: &Ulid,
+    ) -> Result<(), SlateDBError>
+        requires { ShowedRecords id.now view.old.compactions self.now.compactions }
+        ensures shows { OnOk result (Shows view.new self.now) }
+        ensures memory { IsOkUnless result SlateDBError.Memory }
+    {
+        let manifest = self.manifest.clone()?;
+        show_job(alloc, &mut view.compactions, &self.compactions, *id)?;
+        view.manifest = manifest;
+        Ok(())
     }
 
     /// Takes over stored records, each job by the two statuses. The version becomes the stored one.
@@ -237,6 +258,39 @@ fn active(
         jobs: records.compactions().jobs.active(alloc)?,
     };
     Ok(VersionedCompactions::from_compactions(records.id(), compactions))
+}
+
+// Puts a copy of the job among the records that are shown. If there is no such job, all jobs that
+// are not over are copied.
+fn show_job(
+    alloc: Global,
+    shown: &mut Option<VersionedCompactions>,
+    own: &VersionedCompactions,
+    id: Ulid,
+) -> Result<(), SlateDBError>
+    requires { ShowedRecords id shown.old own.now }
+    ensures shows { OnOk result (ShowsRecords shown.new own.now) }
+    ensures memory { IsOkUnless result SlateDBError.Memory }
+{
+    let Some(job) = own.compactions().get(&id) else {
+        *shown = Some(active(alloc, own)?);
+        return Ok(());
+    };
+    match shown {
+        Some(records) => {
+            know_rising(own);
+            know_rising(records);
+            records.show(own, job.clone()?)
+        }
+        None => unreachable!(),
+    }
+}
+
+// The ids of the jobs rise.
+fn know_rising(records: &VersionedCompactions)
+    ensures { AreRising records.now.compactions.jobs }
+{
+    let _jobs = records.recent_compactions();
 }
 
 fn merged(
