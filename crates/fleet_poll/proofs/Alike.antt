@@ -22,6 +22,7 @@ use Rattle.fleet_jobs.specs.Parts.JobParts.{JobParts}
 use Rattle.fleet_jobs.specs.Jobs.{is_open, job_handles, job_of, jobs_of}
 use Rattle.fleet_jobs.specs.Status.{status_of}
 use Rattle.fleet_book.specs.States.{own_jobs}
+use Rattle.fleet_book.proofs.Shown.{open_again}
 use Rattle.fleet_sched.specs.Views.{handles_in, tree_handles, view_of}
 use Rattle.fleet_gates.specs.Shown.{accepted_on}
 use Rattle.fleet_poll.specs.Made.{own_core}
@@ -135,17 +136,9 @@ open_are (job ∷ jobs) = by (is_finished (status_of job.status)) (open_are jobs
     by true rest = rest
     by false rest = ap (λ js. job_of job ∷ js) rest
 
-open_again : (jobs : List JobParts) → filter is_open (filter is_open jobs) ≡ filter is_open jobs
-open_again [] = refl
-open_again (job ∷ jobs) = by (is_open job) refl (open_again jobs)
-  where
-    by : (b : Bool) → is_open job ≡ b → filter is_open (filter is_open jobs) ≡ filter is_open jobs → filter is_open (cond b (job ∷ filter is_open jobs) (filter is_open jobs)) ≡ cond b (job ∷ filter is_open jobs) (filter is_open jobs)
-    by true e rest = rw e (ap (λ js. job ∷ js) rest)
-    by false e rest = rest
-
 -- ---- the view
 
-abbrev made_view : Manifest → (version epoch : ℕ) → Jobs → List Handle → View
+abbrev pub made_view : Manifest → (version epoch : ℕ) → Jobs → List Handle → View
 made_view manifest version epoch jobs handles = record { manifest = manifest; records_version = version; records_epoch = epoch; jobs = jobs; handles = handles }
 
 module _ (flushes : RunFlushes) (input : PollInput) (s : Scheduler) (poll : Poll) (sees : Sees input s poll.state) where

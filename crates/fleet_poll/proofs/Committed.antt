@@ -231,6 +231,17 @@ picked_apart p (job ∷ jobs) rising = by (p job) (picked_apart p jobs rising.1)
     by true rest = (picked_hold p (λ other. (job.id == other.id) ≡ false) jobs (all_apart job.id jobs rising.0), rest)
     by false rest = rest
 
+pub no_jobs : (jobs : List JobParts) → job_ids jobs ≡ [] → jobs ≡ []
+no_jobs [] none = refl
+no_jobs (job ∷ jobs) none = absurd (cc none)
+
+-- Without a Compacted job, nothing is to be done.
+pub commits_none : (flushes : RunFlushes) (input : PollInput) (poll : Poll) (ids : List ℕ) → ids ≡ job_ids (filter is_compacted (own_jobs poll.state)) → ids ≡ [] → HasReached poll (commit_finished input (poll_of flushes poll))
+commits_none flushes input poll ids are none =
+    let jobs = own_jobs poll.state in
+    let left = no_jobs (filter is_compacted jobs) (sym are ∙ none) in
+    record { flushes = flushes; is = ap (λ js. each (commit_job input) js (poll_of flushes poll)) (ap jobs_of (sym left) ∙ compacted_are jobs) }
+
 -- Before the first commit, all Compacted jobs are left, and may be committed one after the other.
 pub commits_begin : (s : Scheduler) (initial : Poll) → AreRising (own_jobs initial.state) → MayCommit s (filter is_compacted (own_jobs initial.state)) initial → CommitsOn s initial (filter is_compacted (own_jobs initial.state)) initial
 commits_begin s initial rising may = record {

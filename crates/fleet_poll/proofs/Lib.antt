@@ -13,6 +13,7 @@ pub mod MatchedTables
 pub mod Taken
 pub mod Carried
 pub mod Alike
+pub mod Viewed
 pub mod Committed
 pub mod StillHeld
 pub mod Decided

@@ -12,7 +12,7 @@ use Rattle.fleet_model.specs.Work.PollStates.{PollInput}
 use Rattle.fleet_model.specs.Work.Records.{firsts}
 use Rattle.fleet_model.specs.Work.Scheduler.{Scheduler}
 use Rattle.fleet_tree.specs.Trees.{RunFlushes}
-use Rattle.fleet_jobs.specs.Jobs.{job_of, jobs_of}
+use Rattle.fleet_jobs.specs.Jobs.{job_ids, job_of, jobs_of}
 use Rattle.fleet_jobs.specs.Parts.JobParts.{JobParts}
 use Rattle.fleet_book.specs.Records.{AreRising, record_with}
 use Rattle.fleet_book.specs.States.{own_jobs}
@@ -21,7 +21,7 @@ use Rattle.fleet_poll.specs.Loops.{HasReached, IsDecision, LostAreOver, is_over_
 use Rattle.fleet_poll.specs.Polls.{poll_of}
 use Rattle.fleet_poll.specs.Seen.{Sees}
 use Rattle.fleet_poll.specs.declared.poll.Poll.{Poll}
-use Rattle.fleet_poll.proofs.Committed.{all_found, all_picked, picked_apart, still_there}
+use Rattle.fleet_poll.proofs.Committed.{all_found, all_picked, no_jobs, picked_apart, still_there}
 
 -- What is left to be done for the model's poll, from what the program's poll has reached.
 pub record OpenGoes (flushes : RunFlushes) (input : PollInput) (s : Scheduler) (initial : Poll) (left : List JobParts) (now : Poll) : Type 0 where
@@ -98,6 +98,13 @@ all_kept : (poll : Poll) (left : List JobParts) → LostAreOver poll → AllByRe
     → AllByRecursion (λ job. contains (lost_to_scheduler poll.lost) job.id ≡ false) left
 all_kept poll [] over there = tt
 all_kept poll (job ∷ left) over there = (not_lost (own_jobs poll.state) poll.lost job there.0.0 there.0.1 over, all_kept poll left over there.1)
+
+-- Without a submitted job, nothing is to be done.
+pub opens_none : (flushes : RunFlushes) (input : PollInput) (poll : Poll) (ids : List ℕ) → ids ≡ job_ids (filter is_submitted (own_jobs poll.state)) → ids ≡ [] → HasReached poll (open_submitted input (poll_of flushes poll))
+opens_none flushes input poll ids are none =
+    let jobs = own_jobs poll.state in
+    let left = no_jobs (filter is_submitted jobs) (sym are ∙ none) in
+    record { flushes = flushes; is = ap (λ js. each (open_job input) js (poll_of flushes poll)) (ap jobs_of (sym left) ∙ submitted_are jobs) }
 
 -- Before the first job is opened, all submitted jobs are left, and the set has the nodes that jobs hold.
 pub opens_begin : (s : Scheduler) (moves : Bool) (initial : Poll) (held : List NodeName) → AreRising (own_jobs initial.state) → LostAreOver initial → AreHeld held (jobs_of (own_jobs initial.state)) (lost_to_scheduler initial.lost)

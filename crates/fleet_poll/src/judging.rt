@@ -9,6 +9,7 @@ ghost use Rattle.fleet_model.specs.Work.PollStates.{PollInput};
 ghost use Rattle.fleet_tree.specs.Trees.{RunFlushes};
 ghost use Rattle.fleet_jobs.specs.Jobs.{job_ids, job_of, jobs_of};
 ghost use Rattle.fleet_book.specs.Records.{record_with};
+ghost use Rattle.fleet_book.specs.Shown.{Shows};
 ghost use Rattle.fleet_book.specs.States.{own_jobs};
 ghost use Rattle.fleet_gates.specs.Held.{AreHeld};
 ghost use Rattle.fleet_poll.specs.Polls.{poll_of};
@@ -17,7 +18,9 @@ ghost use Rattle.fleet_poll.specs.Loops.{HasReached, IsDecision, LostAreOver, is
 
 use crate::Poll;
 use crate::freeing::know_rising;
-use fleet_book::{Compaction, CompactionStatus, CompactorState, VersionedCompactions};
+use fleet_book::{
+    Compaction, CompactionStatus, CompactorState, CompactorStateView, VersionedCompactions,
+};
 use fleet_jobs::{NodeSet, reserves_nodes};
 use fleet_rows::{JobList, SlateDBError, Ulid};
 use fleet_sched::{CompactionScheduler, CompactorOptions};
@@ -45,20 +48,25 @@ impl Poll {
     {
         know_rising(self.state.compactions());
         let submitted = submitted_jobs(alloc, self.state.compactions())?;
+        if submitted.is_empty() {
+            return Ok(());
+        }
         let mut held = held_nodes(alloc, &self.state, self.lost.as_slice())?;
+        let mut view = self.state.view(alloc)?;
         'jobs: for job in submitted.as_slice() {
-            self.open_next(alloc, scheduler, options, &mut held, *job)?;
+            self.open_next(alloc, scheduler, options, &mut view, &mut held, *job)?;
         }
         Ok(())
     }
 
-    // Step 4 of a poll, for one submitted job. The set has the nodes that jobs hold, before the job
-    // is decided and after it.
+    // Step 4 of a poll, for one submitted job. The set has the nodes that jobs hold, and the view
+    // shows the state, before the job is decided and after it.
     fn open_next(
         &mut self,
         alloc: Global,
         scheduler: &(dyn CompactionScheduler + Send + Sync),
         options: &CompactorOptions,
+        view: &mut CompactorStateView,
         held: &mut NodeSet,
         job: Ulid,
     ) -> Result<(), SlateDBError>
@@ -68,6 +76,7 @@ impl Poll {
         requires lost { contains (lost_to_scheduler self.old.lost) job ≡ false }
         requires held { AreHeld held.old (jobs_of (own_jobs self.old.state))
             (lost_to_scheduler self.old.lost) }
+        requires shown { Shows view.old self.old.state }
         ensures poll { (flushes : RunFlushes) (input : PollInput)
             → Sees input (answers scheduler.now) self.old.state
             → input.options.moves ≡ options.now.enable_trivial_move
@@ -76,10 +85,11 @@ impl Poll {
         ensures decision { OnOk result (IsDecision job self.old self.new) }
         ensures held { OnOk result (AreHeld held.new (jobs_of (own_jobs self.new.state))
             (lost_to_scheduler self.new.lost)) }
+        ensures shown { OnOk result (Shows view.new self.new.state) }
         ensures memory { IsOkUnless result SlateDBError.Memory }
     {
         know_rising(self.state.compactions());
-        self.open_submitted(alloc, scheduler, options, held, job)?;
+        self.open_shown(alloc, scheduler, options, view, held, job)?;
         add_nodes(held, &self.state, job)?;
         Ok(())
     }

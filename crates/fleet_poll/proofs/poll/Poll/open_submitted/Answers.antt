@@ -1,22 +1,5 @@
-use Rattle.std.proofs.Common.{[]}
-use Rattle.fleet_model.specs.Work.Polls.{lost_to_scheduler}
-use Rattle.fleet_jobs.specs.Jobs.{jobs_of}
-use Rattle.fleet_book.specs.Records.{record_with}
-use Rattle.fleet_book.specs.States.{own_jobs}
-use Rattle.fleet_poll.proofs.Answered.{opened_in, stand_in}
-use Rattle.fleet_poll.proofs.Reached.{on_ok}
+use Rattle.fleet_poll.proofs.Viewed.{shows_at_first}
 use Rattle.fleet_poll.proofs.poll.Poll.open_submitted.Goals as goal
 
-pub open-requires-clause-stand : goal.open-requires-clause-stand
-open-requires-clause-stand g c =
-    let poll = c.args.self.now in
-    stand_in (λ prefix run. []) poll.state ((goal.CompactionScheduler-dyn g c.args.scheduler.now).answers c.args.scheduler.now.1) c.args.held.now (lost_to_scheduler poll.lost) c.in_ok-failed.failed (record_with c.args.job (own_jobs poll.state))
-    (c.in_ok-failed.ensures.rule (λ prefix run. []) (jobs_of (own_jobs poll.state)) (lost_to_scheduler poll.lost)) c.requires.held
-
-pub returns-clause-poll : goal.returns-clause-poll
-returns-clause-poll g c = λ flushes input rise same.
-    let poll = c.args.self.now in
-    on_ok c.open.result
-    (opened_in flushes input c.args.options.now.enable_trivial_move poll c.open.new.self ((goal.CompactionScheduler-dyn g c.args.scheduler.now).answers c.args.scheduler.now.1) c.args.held.now c.in_ok-failed.failed (record_with c.args.job (own_jobs poll.state))
-    (c.in_ok-failed.ensures.rule flushes (jobs_of (own_jobs poll.state)) (lost_to_scheduler poll.lost)) c.requires.held)
-    (c.open.ensures.poll flushes input rise same)
+pub open_shown-requires-clause-shown : goal.open_shown-requires-clause-shown
+open_shown-requires-clause-shown g c = shows_at_first c.args.self.now.state c.in_ok-view.view c.in_ok-view.ensures.manifest c.in_ok-view.ensures.jobs
