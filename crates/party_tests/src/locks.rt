@@ -2,18 +2,29 @@
 ghost use Rattle.std.specs.Prelude.{◌≡◌};
 ghost use Rattle.step_model.specs.Views.{SameCaller};
 ghost use Rattle.fleet_lock.specs.Locks.{table_of};
+ghost use Rattle.party_tests.specs.Callers.{IsHand};
+ghost use Rattle.party_tests.specs.Passes.{Leads, MayLend, Serves, folds_append};
+ghost use Rattle.party_tests.specs.Starts.{MayStart};
 
+use crate::besides::start;
 use crate::passes::{join_to, lead, serve, share};
+use crate::sites::{Site, small};
+use crate::work::{beat, claim, hire, job, release};
 use fleet_fold::AppendOperator;
-use fleet_history::{ManifestChange, StepList};
+use fleet_history::{ManifestChange, Party, StepList};
+use fleet_jobs::{CompactionStatus, Release};
 use fleet_lock::{Holds, Lock, Pass, callers_keep_passes};
 use fleet_rows::SlateDBError;
 use fleet_store::{MemStore, Store};
+use fleet_worker::Worker;
 use std::alloc::Global;
 use std::sync::Wait;
 use std::test::*;
 use std::thread::{Threads, join};
 use step_laws::fresh_keeps;
+
+// How many rounds a worker and a coordinator make.
+const ROUNDS: u64 = 30;
 
 // How often a thread tries to put.
 const TRIES: u32 = 1_000_000;
@@ -193,4 +204,107 @@ fn passes_are_joined_in_another_order(rt: HostRuntime) {
     assert!(rt; pass.parts() == 11);
     let store = shared.close(&rt, pass);
     assert!(rt; store.manifest().id == 1);
+}
+
+// The worker claims the job, sends heartbeats, and then gives the job back.
+fn works<S: Store>(store: &mut S, worker: &mut Worker) -> Result<bool, SlateDBError>
+    requires { IsHand (S.view store.old) worker.old }
+{
+    let mut done = claim(store, worker, 1, 1)?;
+    'beats: for moment in 2..ROUNDS {
+        done = beat(store, worker, moment)? && done;
+    }
+    Ok(done && release(store, worker)?)
+}
+
+// A coordinator starts again and again. Whether its epochs rise, and the last one.
+fn starts<S: Store>(alloc: Global, store: &mut S) -> Result<(bool, u64), SlateDBError>
+    requires { MayStart (S.view store.old) }
+{
+    let mut rise = true;
+    let mut last = 0;
+    'starts: for _round in 2..ROUNDS {
+        let epoch = start(alloc, store)?.epoch();
+        rise = rise && last < epoch;
+        last = epoch;
+    }
+    Ok((rise, last))
+}
+
+// What the worker 1 does through its pass.
+fn works_through<R: Wait, S: Holds>(
+    rt: &R,
+    alloc: Global,
+    shared: &Lock<S>,
+    mut pass: Pass,
+) -> Result<bool, SlateDBError>
+    requires folds { S.folds ≡ folds_append }
+    requires own { pass.table ≡ table_of shared.now }
+    requires serves { Serves 1 pass }
+{
+    let mut store = shared.at(rt, &mut pass);
+    let mut worker = hire(alloc, &store, 1, Release::Two);
+    works(&mut store, &mut worker)
+}
+
+// What a coordinator does through its pass.
+fn starts_through<R: Wait, S: Holds>(
+    rt: &R,
+    alloc: Global,
+    shared: &Lock<S>,
+    mut pass: Pass,
+) -> Result<(bool, u64), SlateDBError>
+    requires folds { S.folds ≡ folds_append }
+    requires own { pass.table ≡ table_of shared.now }
+    requires leads { Leads pass }
+{
+    let mut store = shared.at(rt, &mut pass);
+    starts(alloc, &mut store)
+}
+
+// What a worker and a coordinator do at once.
+fn at_once<R: Threads + Wait + Sync, S: Holds + Send>(
+    rt: &R,
+    alloc: Global,
+    shared: &Lock<S>,
+    first: &mut Pass,
+) -> Result<(bool, (bool, u64)), SlateDBError>
+    requires folds { S.folds ≡ folds_append }
+    requires own { first.old.table ≡ table_of shared.now }
+    requires parts { first.old.sight.parts ≡ 3 }
+    requires lends { MayLend 5 first.old }
+    ensures { first.new.table ≡ table_of shared.now }
+{
+    let one = lead(shared, first, 1);
+    let two = serve(shared, first, 1);
+    let (worked, started) = join(
+        rt,
+        move || -> Result<bool, SlateDBError>
+            requires folds { S.folds ≡ folds_append }
+            requires own { two.table ≡ table_of shared.now }
+            requires serves { Serves 1 two }
+        { works_through(rt, alloc, shared, two) },
+        move || -> Result<(bool, u64), SlateDBError>
+            requires folds { S.folds ≡ folds_append }
+            requires own { one.table ≡ table_of shared.now }
+            requires leads { Leads one }
+        { starts_through(rt, alloc, shared, one) },
+    );
+    Ok((worked?, started?))
+}
+
+#[test]
+fn a_worker_and_a_coordinator_call_at_once(rt: HostRuntime) {
+    let alloc: Global = rt.alloc();
+    let Site { store, .. } = small(alloc).expect(&rt, "a job");
+    let Ok((shared, mut first)) = share(alloc, store, &AppendOperator, 3) else {
+        return;
+    };
+    let done = at_once(&rt, alloc, &shared, &mut first).expect(&rt, "both");
+    let store = shared.close(&rt, first);
+    let (worked, (rise, epoch)) = done;
+    assert!(rt; worked && rise && store.manifest().compactor_epoch() == epoch);
+    let records = store.records().expect(&rt, "records");
+    let status = records.compactions().get(&job(1)).map(|job| job.status());
+    assert!(rt; status == Some(CompactionStatus::Scheduled));
 }

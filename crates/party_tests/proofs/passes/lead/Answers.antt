@@ -1,4 +1,4 @@
-use Rattle.std.proofs.Common.{◌≡◌, refl, ap, sym, subst, ◌+◌, ℕ, arith}
+use Rattle.std.proofs.Common.{◌≡◌, refl, ap, sym, subst, ◌+◌, arith}
 use Rattle.fleet_history.specs.Parties.{party_of}
 use Rattle.fleet_history.specs.declared.party.Party.{Party}
 use Rattle.fleet_history.specs.declared.party.Party.TheVariants as own
