@@ -3,3 +3,4 @@ pub mod Flushes
 pub mod ModelFlushes
 pub mod Tracking
 pub mod Chunks
+pub mod Falling

@@ -8,6 +8,7 @@ mod laws;
 mod list;
 mod manifest;
 mod run;
+mod run_list;
 mod tracker;
 mod tree;
 mod trees;
@@ -17,11 +18,10 @@ pub use block::BlockMeta;
 pub use flush_list::{FlushList, Views};
 pub use handle::SsTableHandle;
 pub use laws::flushes_are_the_models;
-pub use list::{
-    BlockList, OutputList, RunList, SegmentList, SharedList, TableList, TrackerList, ViewList,
-};
+pub use list::{BlockList, OutputList, SegmentList, SharedList, TableList, TrackerList, ViewList};
 pub use manifest::{Manifest, ManifestCore, VersionedManifest};
 pub use run::SortedRun;
+pub use run_list::RunList;
 pub use tracker::{Tracked, least_seq};
 pub use tree::{LsmTreeState, merge_from_writer};
 pub use trees::{Trees, TreesWithPrefix};

@@ -4,7 +4,7 @@ ghost use Rattle.std.specs.Prelude.{◌≡◌, ◌↔◌, ◌≤◌, ◌<◌, �
 ghost use Rattle.std.specs.Option.{option_copied};
 ghost use Rattle.std.specs.Cmp.Lexicographic.{pointwise, lists_per, lists_equiv};
 
-use crate::{BlockMeta, LsmTreeState, SortedRun, SsTableHandle, SsTableView, Tracked};
+use crate::{BlockMeta, LsmTreeState, SsTableHandle, SsTableView, Tracked};
 use bytes::Bytes;
 use fleet_rows::{Copies, ListOf, SlateDBError};
 use std::alloc::{AllocError, Global};
@@ -218,9 +218,6 @@ pub type OutputList = ListOf<TableList>;
 
 /// The tables of a run, or a chunk of the flushes of a tree.
 pub type ViewList = SharedList<SsTableView>;
-
-/// The runs of a tree, by falling id.
-pub type RunList = SharedList<SortedRun>;
 
 /// The trees of segments, each with its prefix, by rising prefix.
 pub type SegmentList = SharedList<(Bytes, LsmTreeState)>;

@@ -1,0 +1,146 @@
+-- Runs whose ids fall, and the places of runs among them.
+use Rattle.std.proofs.Common.{◌≡◌, refl, sym, ◌∙◌, ap, subst, ℕ, zero, suc, ◌<◌, ◌≤◌, ◌⊎◌, inl, inr, List, [], ◌∷◌, ◌++◌, ◌-◌, ◌≢◌, length, get_or, drop, Bool, true, false, not, cond, ◌+◌, arith}
+use Rattle.std.specs.Prelude.{◌==◌, ◌&&◌, nat_lt, slice_get, Option, Some, None}
+use Rattle.std.specs.List.{HoldsAt, position_or_len}
+use Rattle.std.specs.List.Sorted.{IsNonDecreasingBy, IsPartitionPoint}
+use Rattle.std.specs.Ordering.{MatchOrdering, nat_cmp, ordering_index}
+use Rattle.std.specs.declared.cmp.Ordering.{Ordering}
+use Rattle.std.specs.declared.cmp.Ordering.TheVariants.{Less, Equal, Greater}
+use Rattle.std.proofs.lemmas.Bool.{and_parts, cases_lt, eq-eqb, ltb-true, ne_eqb}
+use Rattle.std.proofs.lemmas.Cmp.{ranked}
+use Rattle.std.proofs.lemmas.List.Sums.{position_or_len_is}
+use Rattle.fleet_tree.specs.Falling.{are_falling, is_above_first}
+use Rattle.fleet_tree.specs.declared.run.SortedRun.{SortedRun}
+
+-- Runs fall if the first is above the second, and the others fall.
+pub falling_on : (runs : List SortedRun) (first : SortedRun) → 1 ≤ length runs → first ≡ get_or runs 0 first
+    → are_falling runs ≡ (is_above_first first (drop 1 runs) && are_falling (drop 1 runs))
+falling_on [] first some is = absurd (omega arith)
+falling_on (run ∷ runs) first some is = ap (λ (r : SortedRun). is_above_first r runs && are_falling runs) (sym is)
+
+-- ---- one run more at the end
+
+-- Runs fall with one more if they fall without it, and it is below the last.
+pub falling_with : (runs : List SortedRun) (last run : SortedRun) → Some last ≡ slice_get runs (length runs - 1) → (are_falling runs && nat_lt run.id last.id) ≡ are_falling (runs ++ run ∷ [])
+falling_with [] last run is = absurd (cc is)
+falling_with (first ∷ []) last run is = let same : last ≡ first = cc is in rw same (by (nat_lt run.id first.id))
+  where
+    by : (b : Bool) → b ≡ (b && true)
+    by true = refl
+    by false = refl
+falling_with (first ∷ next ∷ runs) last run is =
+    let behind : length (first ∷ next ∷ runs) - 1 ≡ suc (length (next ∷ runs) - 1) = omega arith in
+    let there : Some last ≡ slice_get (next ∷ runs) (length (next ∷ runs) - 1) = rw behind at is in
+    by (nat_lt next.id first.id) (are_falling (next ∷ runs)) (falling_with (next ∷ runs) last run there)
+  where
+    by : (b d : Bool) → (d && nat_lt run.id last.id) ≡ are_falling (next ∷ (runs ++ run ∷ [])) → ((b && d) && nat_lt run.id last.id) ≡ (b && are_falling (next ∷ (runs ++ run ∷ [])))
+    by true d rest = rest
+    by false d rest = refl
+
+-- One run falls.
+pub falling_alone : (runs : List SortedRun) (run : SortedRun) → None ≡ slice_get runs (length runs - 1) → true ≡ are_falling (runs ++ run ∷ [])
+falling_alone [] run is = refl
+falling_alone (first ∷ []) run is = absurd (cc is)
+falling_alone (first ∷ next ∷ runs) run is =
+    let behind : length (first ∷ next ∷ runs) - 1 ≡ suc (length (next ∷ runs) - 1) = omega arith in
+    let there : None ≡ slice_get (next ∷ runs) (length (next ∷ runs) - 1) = rw behind at is in
+    absurd (some_last next runs there)
+  where
+    some_last : (x : SortedRun) (xs : List SortedRun) → None ≢ slice_get (x ∷ xs) (length (x ∷ xs) - 1)
+    some_last x [] e = cc e
+    some_last x (y ∷ ys) e = some_last y ys (let m : length (x ∷ y ∷ ys) - 1 ≡ suc (length (y ∷ ys) - 1) = omega arith in rw m at e)
+
+-- ---- falling ids, by place
+
+-- A run is above all later ones.
+above_later : (run : SortedRun) (runs : List SortedRun) → is_above_first run runs ≡ true → are_falling runs ≡ true → (j : ℕ) (d : SortedRun) → j < length runs → (get_or runs j d).id < run.id
+above_later run [] above falls j d within = absurd (omega arith)
+above_later run (next ∷ runs) above falls zero d within = ltb-true next.id run.id above
+above_later run (next ∷ runs) above falls (suc j) d within =
+    let parts = and_parts (is_above_first next runs) (are_falling runs) falls in
+    let later = above_later next runs parts.0 parts.1 j d (omega arith) in
+    let first = ltb-true next.id run.id above in
+    omega (arith, later, first)
+
+falls_at : (runs : List SortedRun) → are_falling runs ≡ true → (i j : ℕ) (d : SortedRun) → i < j → j < length runs → (get_or runs j d).id < (get_or runs i d).id
+falls_at [] falls i j d before within = absurd (omega arith)
+falls_at (run ∷ runs) falls i zero d before within = absurd (omega arith)
+falls_at (run ∷ runs) falls zero (suc j) d before within =
+    let parts = and_parts (is_above_first run runs) (are_falling runs) falls in
+    above_later run runs parts.0 parts.1 j d (omega arith)
+falls_at (run ∷ runs) falls (suc i) (suc j) d before within =
+    let parts = and_parts (is_above_first run runs) (are_falling runs) falls in
+    falls_at runs parts.1 i j d (omega arith) (omega arith)
+
+not_above : (runs : List SortedRun) → are_falling runs ≡ true → (i j : ℕ) (d : SortedRun) → i ≤ j → j < length runs → (get_or runs j d).id ≤ (get_or runs i d).id
+not_above runs falls i j d upto within = by (cases_lt i j)
+  where
+    by : (i < j) ⊎ (j ≤ i) → (get_or runs j d).id ≤ (get_or runs i d).id
+    by (inl before) = let lower = falls_at runs falls i j d before within in omega (arith, lower)
+    by (inr after) =
+        let same : i ≡ j = omega arith in
+        let P : ℕ → Type 0 = λ n. (get_or runs n d).id ≤ (get_or runs i d).id in
+        subst P same (omega arith)
+
+-- ---- the place of an id
+
+pub place_within : (id : ℕ) (runs : List SortedRun) → position_or_len (λ run. run.id == id) runs ≤ length runs
+place_within id [] = omega arith
+place_within id (run ∷ runs) = by (run.id == id) (place_within id runs)
+  where
+    by : (b : Bool) → position_or_len (λ r. r.id == id) runs ≤ length runs → cond (not b) (1 + position_or_len (λ r. r.id == id) runs) 0 ≤ length (run ∷ runs)
+    by true rest = omega arith
+    by false rest = omega (arith, rest)
+
+lower_is_other : (id other : ℕ) → nat_cmp id other ≡ Less → (other == id) ≡ false
+lower_is_other id other e = let apart = ranked id other Less (sym e) in ne_eqb other id (λ same. omega (arith, apart, same))
+
+higher_is_other : (id other : ℕ) → nat_cmp id other ≡ Greater → (other == id) ≡ false
+higher_is_other id other e = let apart = ranked id other Greater (sym e) in ne_eqb other id (λ same. omega (arith, apart, same))
+
+-- A lower id compares as a greater one.
+compares_later : (id a b : ℕ) → b ≤ a → ordering_index (nat_cmp id a) ≤ ordering_index (nat_cmp id b)
+compares_later id a b upto = by (nat_cmp id a) (nat_cmp id b) (ranked id a (nat_cmp id a) refl) (ranked id b (nat_cmp id b) refl)
+  where
+    by : (o p : Ordering) → MatchOrdering o (id < a) (id ≡ a) (a < id) → MatchOrdering p (id < b) (id ≡ b) (b < id) → ordering_index o ≤ ordering_index p
+    by Less Less m n = omega arith
+    by Less Equal m n = omega arith
+    by Less Greater m n = omega arith
+    by Equal Less m n = absurd (omega (arith, m, n, upto))
+    by Equal Equal m n = omega arith
+    by Equal Greater m n = omega arith
+    by Greater Less m n = absurd (omega (arith, m, n, upto))
+    by Greater Equal m n = absurd (omega (arith, m, n, upto))
+    by Greater Greater m n = omega arith
+
+module _ (id : ℕ) (runs : List SortedRun) (falls : are_falling runs ≡ true) where
+  abbrev has : SortedRun → Bool
+  has run = run.id == id
+
+  abbrev compared : SortedRun → Ordering
+  compared run = nat_cmp id run.id
+
+  -- Any run serves for what lies past the end of a list.
+  abbrev any : SortedRun
+  any = record { id = 0; views = [] }
+
+  -- A run with the id is the only one, and so the first.
+  pub found_at : (place : ℕ) → place < length runs → HoldsAt (λ run. compared run ≡ Equal) runs place → place ≡ position_or_len has runs
+  found_at place within at =
+      let here : id ≡ (get_or runs place any).id = ranked id (get_or runs place any).id Equal (sym (at any)) in
+      sym (position_or_len_is has runs place any (omega arith)
+      (λ k before. let above = falls_at runs falls k place any before within in ne_eqb (get_or runs k any).id id (λ same. omega (arith, above, here, same)))
+      (λ _. eq-eqb (get_or runs place any).id id (sym here)))
+
+  rises : IsNonDecreasingBy (λ run. ordering_index (compared run)) runs
+  rises i j d upto within = compares_later id (get_or runs i d).id (get_or runs j d).id (not_above runs falls i j d upto within)
+
+  -- No run has the id if those before a gap are above it, and those after the gap are below it.
+  pub found_nowhere : (gap : ℕ) → (IsNonDecreasingBy (λ run. ordering_index (compared run)) runs → IsPartitionPoint (λ run. compared run ≡ Less) (λ run. compared run ≡ Greater) runs gap)
+      → length runs ≡ position_or_len has runs
+  found_nowhere gap parted =
+      sym (position_or_len_is has runs (length runs) any (omega arith) (λ k within. differs k within (cases_lt k gap)) (λ past. absurd (omega (arith, past))))
+    where
+      differs : (k : ℕ) → k < length runs → (k < gap) ⊎ (gap ≤ k) → has (get_or runs k any) ≡ false
+      differs k within (inl before) = lower_is_other id (get_or runs k any).id ((parted rises).0 k any (omega arith) before)
+      differs k within (inr after) = higher_is_other id (get_or runs k any).id ((parted rises).1 k any after within)
