@@ -7,4 +7,5 @@ pub mod Indexed
 pub mod Stretches
 pub mod Lowest
 pub mod Standing
+pub mod RunStretches
 pub mod ModelPlaces

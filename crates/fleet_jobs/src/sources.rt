@@ -58,22 +58,13 @@ pub(crate) fn runs_of(
 ) -> Result<Vec<SortedRun>, AllocError>
     ensures { IfOk result (λ runs. runs.items ≡ taken_runs spec.now core.now) }
 {
-    named_runs(alloc, spec.sources(), runs_in(tree_of(spec, core)))
+    named_runs(alloc, spec.sources(), tree_of(spec, core))
 }
 
 fn tree_of<'a>(spec: &CompactionSpec, core: &'a ManifestCore) -> Option<&'a LsmTreeState>
     ensures { option_copied result ≡ tree_in (segment_of spec.now) core.now }
 {
     core.tree_for_segment(spec.segment().as_slice())
-}
-
-fn runs_in(tree: Option<&LsmTreeState>) -> &[SortedRun]
-    ensures { result.now ≡ runs_in (option_copied tree.entry) }
-{
-    match tree {
-        Some(tree) => tree.compacted.as_slice(),
-        None => &[],
-    }
 }
 
 // Copies of the flushes that the sources name in the tree, in the order of the sources.
@@ -112,34 +103,40 @@ fn view_in(id: Ulid, tree: Option<&LsmTreeState>) -> Option<&SsTableView>
     }
 }
 
-// Copies of the runs that the sources name, in the order of the sources.
+// Copies of the runs that the sources name in the tree, in the order of the sources.
 fn named_runs(
     alloc: Global,
     sources: &[SourceId],
-    runs: &[SortedRun],
+    tree: Option<&LsmTreeState>,
 ) -> Result<Vec<SortedRun>, AllocError>
-    ensures { IfOk result (λ named. named.items ≡ named_runs sources.now runs.now) }
+    ensures { IfOk result
+        (λ named. named.items ≡ named_runs sources.now (runs_in (option_copied tree.entry))) }
 {
     let mut named = Vec::new(alloc);
     'sources: for source in sources {
-        add_copy(&mut named, named_run(source, runs))?;
+        add_copy(&mut named, named_run(source, tree))?;
     }
     Ok(named)
 }
 
-fn named_run<'a>(source: &SourceId, runs: &'a [SortedRun]) -> Option<&'a SortedRun>
-    ensures { option_copied result ≡ run_with (run_id_of source.now) runs.now }
+fn named_run<'a>(source: &SourceId, tree: Option<&'a LsmTreeState>) -> Option<&'a SortedRun>
+    ensures { option_copied result
+        ≡ run_with (run_id_of source.now) (runs_in (option_copied tree.entry)) }
 {
     match source {
-        SourceId::SortedRun(id) => run_with(*id, runs),
+        SourceId::SortedRun(id) => run_in(*id, tree),
         SourceId::SstView(_) => None,
     }
 }
 
-fn run_with(id: u32, runs: &[SortedRun]) -> Option<&SortedRun>
-    ensures { option_copied result ≡ find (λ run. run.id == id) runs.now }
+fn run_in(id: u32, tree: Option<&LsmTreeState>) -> Option<&SortedRun>
+    ensures { option_copied result
+        ≡ find (λ run. run.id == id) (runs_in (option_copied tree.entry)) }
 {
-    runs.iter().find(|run| run.id == id)
+    match tree {
+        Some(tree) => tree.compacted.with_id(id),
+        None => None,
+    }
 }
 
 // Adds a copy of the item, if there is one.

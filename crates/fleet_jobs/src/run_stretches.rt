@@ -1,0 +1,64 @@
+//! Where sources are among the runs of a tree.
+
+ghost use Rattle.std.specs.Prelude.{◌≡◌, ◌≤◌, drop, is_some, length, map};
+ghost use Rattle.fleet_model.specs.Nodes.{Run};
+ghost use Rattle.fleet_model.specs.Sources.{after_front, older_nodes};
+ghost use Rattle.fleet_jobs.specs.Sources.{name_of};
+
+use crate::{SourceId, is_same};
+use fleet_tree::{RunList, SortedRun};
+
+/// Whether the sources are among the runs, one after the other.
+///
+/// They are looked for from the first run on that is the first source. So for n sources that are
+/// among m runs whose ids fall, this takes a time of the order of n + log m.
+pub fn is_run_stretch(sources: &[SourceId], runs: &RunList) -> bool
+    ensures { result ≡ is_some
+        (older_nodes (map name_of sources.now) (map (λ run. Run run.id) runs.now)) }
+{
+    let Some(first) = sources.first() else {
+        return true;
+    };
+    match first.maybe_unwrap_sorted_run() {
+        Some(id) => are_among(sources, runs_from(runs.place_of(id), runs)),
+        None => false,
+    }
+}
+
+// The runs from this place on.
+fn runs_from(place: usize, runs: &RunList) -> &[SortedRun]
+    requires { place ≤ length runs.now }
+    ensures { result.now ≡ drop place runs.now }
+{
+    &runs.as_slice()[place..]
+}
+
+// Whether the sources are among the runs, one after the other. Each place is looked at in turn.
+fn are_among(sources: &[SourceId], runs: &[SortedRun]) -> bool
+    ensures { result ≡ is_some
+        (older_nodes (map name_of sources.now) (map (λ run. Run run.id) runs.now)) }
+{
+    let mut rest = runs;
+    'places: while !rest.is_empty() {
+        if are_in_front(sources, rest) {
+            return true;
+        }
+        rest = &rest[1..];
+    }
+    are_in_front(sources, rest)
+}
+
+// Whether the runs begin with the sources.
+fn are_in_front(sources: &[SourceId], runs: &[SortedRun]) -> bool
+    ensures { result ≡ is_some
+        (after_front (map name_of sources.now) (map (λ run. Run run.id) runs.now)) }
+{
+    let mut rest = runs;
+    'sources: for source in sources {
+        if rest.is_empty() || !is_same(source, SourceId::SortedRun(rest[0].id)) {
+            return false;
+        }
+        rest = &rest[1..];
+    }
+    true
+}
