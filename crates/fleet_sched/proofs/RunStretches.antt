@@ -1,19 +1,8 @@
--- Sources that are among the runs of a tree, one after the other.
+-- Sources that are among nodes, one after the other.
 use Rattle.std.proofs.Common.{◌≡◌, refl, List, [], ◌∷◌, ◌++◌, true}
 use Rattle.std.specs.Prelude.{is_some, Option, Some, None}
 use Rattle.fleet_model.specs.Nodes.{NodeName}
 use Rattle.fleet_model.specs.Sources.{after_front, older_nodes, or_later}
-use Rattle.fleet_tree.specs.declared.run.SortedRun.{SortedRun}
-use Rattle.fleet_sched.proofs.TreeViews.{names_of_runs}
-
--- Sources with which the runs begin are among them, one after the other.
-pub stand_in_front : (sources : List NodeName) (runs : List SortedRun) → true ≡ is_some (after_front sources (names_of_runs runs)) → true ≡ is_some (older_nodes sources (names_of_runs runs))
-stand_in_front sources [] e = e
-stand_in_front sources (run ∷ runs) e = by (after_front sources (names_of_runs (run ∷ runs))) e
-  where
-    by : (o : Option (List NodeName)) → true ≡ is_some o → true ≡ is_some (or_later o (older_nodes sources (names_of_runs runs)))
-    by None f = absurd (cc f)
-    by (Some rest) f = refl
 
 -- Sources that are among nodes one after the other are so among these nodes and newer ones.
 pub stand_behind : (sources newer nodes : List NodeName) → true ≡ is_some (older_nodes sources nodes) → true ≡ is_some (older_nodes sources (newer ++ nodes))

@@ -2,8 +2,7 @@
 
 ghost use Rattle.std.specs.Prelude.{◌≡◌, ◌&&◌, map, Some, IfOk, is_some};
 ghost use Rattle.fleet_model.specs.Work.Gates.{is_nonempty};
-ghost use Rattle.fleet_model.specs.Nodes.{Run};
-ghost use Rattle.fleet_model.specs.Sources.{after_front, older_nodes};
+ghost use Rattle.fleet_model.specs.Sources.{older_nodes};
 ghost use Rattle.sched_model.specs.SizeTiered.{agree, lowest_run, tiered_validate};
 ghost use Rattle.fleet_tree.specs.Trees.{RunFlushes};
 ghost use Rattle.fleet_jobs.specs.Places.{nodes_in};
@@ -14,9 +13,9 @@ ghost use Rattle.fleet_sched.specs.Stretches.{accepts, stands_in_tree, tree_foun
 ghost use Rattle.fleet_sched.specs.Views.{view_of};
 
 use fleet_book::CompactorStateView;
-use fleet_jobs::{CompactionSpec, SourceId, is_same, is_stretch, lowest_run, tree_nodes};
+use fleet_jobs::{CompactionSpec, SourceId, is_run_stretch, is_stretch, lowest_run, tree_nodes};
 use fleet_rows::SlateDBError;
-use fleet_tree::{LsmTreeState, SortedRun};
+use fleet_tree::LsmTreeState;
 use std::alloc::{AllocError, Global};
 
 /// Refuses the job with `InvalidCompaction` unless the size-tiered scheduler accepts it.
@@ -87,41 +86,11 @@ fn is_stretch_in(
     ensures { IfOk result (λ stands. stands
         ≡ is_some (older_nodes (map name_of sources.now) (nodes_in tree.now))) }
 {
-    if is_run_stretch(sources, tree.compacted.as_slice()) {
+    if is_run_stretch(sources, &tree.compacted) {
         return Ok(true);
     }
     let nodes = tree_nodes(alloc, tree)?;
     Ok(is_stretch(sources, nodes.as_slice()))
-}
-
-// Whether the sources are among the runs, one after the other.
-fn is_run_stretch(sources: &[SourceId], runs: &[SortedRun]) -> bool
-    ensures { result ≡ is_some
-        (older_nodes (map name_of sources.now) (map (λ run. Run run.id) runs.now)) }
-{
-    let mut rest = runs;
-    'places: while !rest.is_empty() {
-        if is_in_front(sources, rest) {
-            return true;
-        }
-        rest = &rest[1..];
-    }
-    is_in_front(sources, rest)
-}
-
-// Whether the runs begin with the sources.
-fn is_in_front(sources: &[SourceId], runs: &[SortedRun]) -> bool
-    ensures { result ≡ is_some
-        (after_front (map name_of sources.now) (map (λ run. Run run.id) runs.now)) }
-{
-    let mut rest = runs;
-    'sources: for source in sources {
-        if rest.is_empty() || !is_same(source, SourceId::SortedRun(rest[0].id)) {
-            return false;
-        }
-        rest = &rest[1..];
-    }
-    true
 }
 
 // Whether the destination is the lowest source run, or no run is a source.

@@ -1,7 +1,5 @@
-use Rattle.std.proofs.Common.{◌∙◌, sym, ap, map}
-use Rattle.std.specs.Prelude.{is_some}
+use Rattle.std.proofs.Common.{◌∙◌, sym, map}
 use Rattle.fleet_model.specs.Nodes.{L0}
-use Rattle.fleet_model.specs.Sources.{older_nodes}
 use Rattle.fleet_jobs.specs.Sources.{name_of}
 use Rattle.fleet_sched.proofs.RunStretches.{stand_behind}
 use Rattle.fleet_sched.proofs.TreeViews.{names_of_runs}
@@ -11,4 +9,4 @@ pub returns-then-is_run_stretch : goal.returns-then-is_run_stretch
 returns-then-is_run_stretch c =
     let sources = map name_of c.args.sources.now in
     stand_behind sources (map (λ view. L0 view.id) c.args.tree.now.l0) (names_of_runs c.args.tree.now.compacted)
-    (sym c.if-is_run_stretch.true ∙ c.is_run_stretch.ensures ∙ ap (λ runs. is_some (older_nodes sources (names_of_runs runs))) c.as_slice.ensures)
+    (sym c.if-is_run_stretch.true ∙ c.is_run_stretch.ensures)
