@@ -1,5 +1,4 @@
 -- The tables of sources are those of the model's source nodes.
-use Rattle.std.specs.Option.{option_or}
 use Rattle.std.proofs.Common.{◌≡◌, refl, sym, ◌∙◌, ap, ℕ, List, [], ◌∷◌, ◌++◌, ◌+◌, ◌<◌, length, get_or, take, map, Bool, true, false, cond}
 use Rattle.std.specs.Prelude.{◌==◌, bytes_eq, find, flat_map, option_map, Option, Some, None}
 use Rattle.std.specs.List.{cons_option}
@@ -100,28 +99,6 @@ tables_at flushes core spec p sources found at named is =
     ∙ tables_are flushes p sources (trees_with_prefix core)
     ∙ ap (λ q. source_pieces (map name_of sources) (tree_at q (trees_of flushes core))) at
     ∙ ap (λ xs. source_pieces (map name_of xs) (tree_at (prefix_of spec) (trees_of flushes core))) named
-
--- What is found among items and one item more is found among the items or is the last one.
-pub found_more : {A B : Type 0} (f : A → B) (test : A → Bool) (xs : List A) (x : A) → option_map f (find test (xs ++ x ∷ [])) ≡ option_or (option_map f (find test xs)) (cond (test x) (Some (f x)) None)
-found_more f test [] x = by (test x)
-  where
-    by : (b : Bool) → option_map f (cond b (Some x) None) ≡ cond b (Some (f x)) None
-    by true = refl
-    by false = refl
-found_more f test (y ∷ xs) x = by (test y) (found_more f test xs x)
-  where
-    by : (b : Bool) → option_map f (find test (xs ++ x ∷ [])) ≡ option_or (option_map f (find test xs)) (cond (test x) (Some (f x)) None)
-        → option_map f (cond b (Some y) (find test (xs ++ x ∷ []))) ≡ option_or (option_map f (cond b (Some y) (find test xs))) (cond (test x) (Some (f x)) None)
-    by true rest = refl
-    by false rest = rest
-
-pub finds_more : {A B : Type 0} (f : A → B) (test : A → Bool) (xs : List A) (i : ℕ) (x : A) (before after : Option B) → i < length xs → x ≡ get_or xs i x
-    → before ≡ option_map f (find test (take i xs)) → after ≡ option_or before (cond (test x) (Some (f x)) None) → after ≡ option_map f (find test (take (i + 1) xs))
-finds_more f test xs i x before after below is so more =
-    more
-    ∙ ap (λ o. option_or o (cond (test x) (Some (f x)) None)) so
-    ∙ sym (found_more f test (take i xs) x)
-    ∙ sym (ap (λ l. option_map f (find test l)) (take_more xs i x below ∙ ap (λ y. take i xs ++ y ∷ []) (sym is)))
 
 end_of_none : {A : Type 0} (xs : List A) → xs ++ [] ≡ xs
 end_of_none [] = refl

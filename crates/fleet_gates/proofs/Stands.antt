@@ -28,17 +28,6 @@ all_among nodes (source ∷ sources) =
     ap (λ b. b && list_all (λ s. list_any (λ node. name_eq (name_of node) (name_of s)) nodes) sources) (among nodes (name_of source))
     ∙ ap (λ b. names_contain (map name_of nodes) (name_of source) && b) (all_among nodes sources)
 
--- ---- sources that are looked for place by place
-
--- Sources with which the runs begin are among them, one after the other.
-pub stand_in_front : (sources : List NodeName) (runs : List SortedRun) → true ≡ is_some (after_front sources (names_of_runs runs)) → true ≡ is_some (older_nodes sources (names_of_runs runs))
-stand_in_front sources [] e = e
-stand_in_front sources (run ∷ runs) e = by (after_front sources (names_of_runs (run ∷ runs))) e
-  where
-    by : (o : Option (List NodeName)) → true ≡ is_some o → true ≡ is_some (or_later o (older_nodes sources (names_of_runs runs)))
-    by None f = absurd (cc f)
-    by (Some rest) f = refl
-
 -- ---- runs that are joined
 
 turned : (x y : NodeName) → name_eq x y ≡ name_eq y x

@@ -1,9 +1,6 @@
 -- The tables of the sources of a job, of the trees of a program.
-use Rattle.std.specs.Prelude.{◌≡◌, ℕ, List, [], flat_map, option_map, Option, Some, None}
-use Rattle.std.specs.Borrow.{Bor}
-use Rattle.std.specs.BTreeMap.{BTreeMap, get}
-use Rattle.std.specs.Option.{option_copied, option_to_list}
-use Rattle.std.specs.Ordering.{nat_cmp}
+use Rattle.std.specs.Prelude.{ℕ, List, [], flat_map, option_map, Option, Some, None}
+use Rattle.std.specs.Option.{option_to_list}
 use Rattle.fleet_tree.specs.Views.{View}
 use Rattle.fleet_tree.specs.declared.tree.LsmTreeState.{LsmTreeState}
 use Rattle.fleet_jobs.specs.Laws.{view_tables}
@@ -32,8 +29,3 @@ tables_of tree (OfRun id) = tables_if_there (run_views id tree)
 -- The ids of the tables that the sources have in the tree, source by source.
 abbrev pub tables_in : LsmTreeState → List SourceId → List ℕ
 tables_in tree sources = flat_map (tables_of tree) sources
-
--- The maps have the tables of the flushes and the views of the runs of a tree.
-pub record HasTables (flushes : BTreeMap ℕ ℕ) (runs : BTreeMap ℕ (Bor (List View))) (tree : LsmTreeState) : Type 0 where
-  pub flush : (id : ℕ) → get nat_cmp flushes id ≡ flush_table id tree.l0
-  pub run : (id : ℕ) → option_copied (get nat_cmp runs id) ≡ run_views id tree

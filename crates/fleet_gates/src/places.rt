@@ -1,18 +1,15 @@
 //! Where the sources of a job are in its tree.
 
-ghost use Rattle.std.specs.Prelude.{◌≡◌, is_some, map, nat_le, length, IfOk};
+ghost use Rattle.std.specs.Prelude.{◌≡◌, count_by, is_some, map, nat_le, length, IfOk};
 ghost use Rattle.std.specs.List.{list_all, list_any};
 ghost use Rattle.fleet_model.specs.Nodes.{name_eq, names_contain};
-ghost use Rattle.fleet_model.specs.Sources.{after_front, older_nodes};
-ghost use Rattle.fleet_jobs.specs.Sources.{name_of};
-ghost use Rattle.fleet_gates.specs.Places.{names_of_runs};
+ghost use Rattle.fleet_jobs.specs.Sources.{name_of, view_id_of};
 
 use fleet_jobs::{NodeSet, SourceId, is_same};
-use fleet_tree::SortedRun;
 use std::alloc::{AllocError, Global};
 
-// Up to this many sources are looked for one by one. For more of them a map of the tree is made,
-// which costs as much as some hundred looks.
+// Up to this many sources are looked for one by one. For more of them a map of the tree, or of its
+// flushes, is made, which costs as much as some hundred looks.
 const FEW: usize = 32;
 
 /// Whether the sources are so few that each of them is looked for on its own.
@@ -20,6 +17,17 @@ pub(crate) fn are_few(sources: &[SourceId]) -> bool
     ensures { result ≡ nat_le (length sources.now) 32 }
 {
     sources.len() <= FEW
+}
+
+/// Whether so few of the sources are flushes that each of these is looked for on its own.
+pub(crate) fn has_few_flushes(sources: &[SourceId]) -> bool
+    ensures { result
+        ≡ nat_le (count_by (λ source. is_some (view_id_of source)) sources.now) 32 }
+{
+    let flushes = sources
+        .iter()
+        .filter(|source| source.maybe_unwrap_sst_view().is_some());
+    flushes.count() <= FEW
 }
 
 /// Whether each source is among the nodes.
@@ -50,34 +58,4 @@ fn has(nodes: &[SourceId], source: SourceId) -> bool
     ensures { result ≡ list_any (λ node. name_eq (name_of node) (name_of source)) nodes.now }
 {
     nodes.iter().any(|node| is_same(node, source))
-}
-
-/// Whether the sources are among the runs, one after the other.
-pub(crate) fn are_stretch(sources: &[SourceId], runs: &[SortedRun]) -> bool
-    ensures { result
-        ≡ is_some (older_nodes (map name_of sources.now) (names_of_runs runs.now)) }
-{
-    let mut rest = runs;
-    'places: while !rest.is_empty() {
-        if are_in_front(sources, rest) {
-            return true;
-        }
-        rest = &rest[1..];
-    }
-    are_in_front(sources, rest)
-}
-
-// Whether the runs begin with the sources.
-fn are_in_front(sources: &[SourceId], runs: &[SortedRun]) -> bool
-    ensures { result
-        ≡ is_some (after_front (map name_of sources.now) (names_of_runs runs.now)) }
-{
-    let mut rest = runs;
-    'sources: for source in sources {
-        if rest.is_empty() || !is_same(source, SourceId::SortedRun(rest[0].id)) {
-            return false;
-        }
-        rest = &rest[1..];
-    }
-    true
 }

@@ -15,11 +15,11 @@ ghost use Rattle.fleet_gates.specs.Places.{names_of_runs};
 ghost use Rattle.fleet_gates.specs.Rules.{accept_each, rule_number, rules_for};
 ghost use Rattle.fleet_gates.specs.Shown.{accepted_on, shown_trees};
 
-use crate::places::{are_stretch, has_all};
+use crate::places::has_all;
 use crate::{Rule, scheduler_rule};
 use fleet_book::CompactorStateView;
 use fleet_jobs::{
-    Compaction, CompactionSpec, NodeSet, SourceId, are_distinct, destination_fits,
+    Compaction, CompactionSpec, NodeSet, SourceId, are_distinct, destination_fits, is_run_stretch,
     is_whole_stretch, names_older, tree_nodes,
 };
 use fleet_rows::SlateDBError;
@@ -38,7 +38,8 @@ use std::alloc::{AllocError, Global};
 ///
 /// For n sources, m nodes in the job's tree and h nodes in the set, this takes a time of the order
 /// of (n + m) log (n + m + h), besides a look at each segment, a look at each run if no run is a
-/// source, and what the scheduler takes.
+/// source, and what the scheduler takes. If the sources are runs of the tree, one after the other,
+/// and the ids of its runs fall, it is n log (n + m + h) in place of that.
 pub fn submit_gate(
     alloc: Global,
     scheduler: &(dyn CompactionScheduler + Send + Sync),
@@ -152,7 +153,7 @@ fn joins_runs(spec: &CompactionSpec, tree: &LsmTreeState) -> bool
         && is_some (older_nodes (map name_of (sources_of spec.now))
         (names_of_runs tree.now.compacted))) }
 {
-    !spec.is_drain() && are_stretch(spec.sources(), tree.compacted.as_slice())
+    !spec.is_drain() && is_run_stretch(spec.sources(), &tree.compacted)
 }
 
 // The first of the rules 4 to 6 that the job fails, if its tree has these nodes.

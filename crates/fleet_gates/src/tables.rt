@@ -1,19 +1,18 @@
 //! The tables of the sources of a job.
 
 ghost use Rattle.std.specs.Option.{option_or};
-ghost use Rattle.std.specs.Prelude.{◌≡◌, ◌==◌, ◌++◌, ℕ, find, map, option_map, IfOk, None, OnOk, Some, if◌then◌else◌};
+ghost use Rattle.std.specs.Prelude.{◌≡◌, ◌==◌, ◌++◌, ℕ, map, option_map, IfOk, None, OnOk, Some, if◌then◌else◌};
 ghost use Rattle.std.specs.BTreeMap.{get};
 ghost use Rattle.std.specs.Option.{option_copied, option_to_list};
 ghost use Rattle.std.specs.Ordering.{nat_cmp};
 ghost use Rattle.fleet_model.specs.Trees.{tables_now};
 ghost use Rattle.fleet_tree.specs.Trees.{RunFlushes, trees_of};
-ghost use Rattle.fleet_tree.specs.declared.tree.LsmTreeState.{LsmTreeState};
 ghost use Rattle.fleet_jobs.specs.Laws.{view_tables};
 ghost use Rattle.fleet_jobs.specs.Specs.{spec_of};
 ghost use Rattle.fleet_jobs.specs.Taken.{run_with};
-ghost use Rattle.fleet_gates.specs.Tables.{HasTables, flush_table, tables_if_there, tables_in, tables_of};
+ghost use Rattle.fleet_gates.specs.Tables.{flush_table, tables_if_there, tables_in, tables_of};
 
-use crate::places::are_few;
+use crate::places::has_few_flushes;
 use fleet_jobs::{CompactionSpec, SourceId};
 use fleet_rows::Ulid;
 use fleet_tree::{FlushList, LsmTreeState, ManifestCore, SortedRun, SsTableView};
@@ -36,7 +35,8 @@ pub fn source_tables(
     }
 }
 
-// The ids of the tables that the sources have in the tree. A few sources are looked for one by one.
+// The ids of the tables that the sources have in the tree. A run is found by its id, and so are a
+// few flushes, one by one.
 fn tables_in(
     alloc: Global,
     tree: &LsmTreeState,
@@ -44,7 +44,7 @@ fn tables_in(
 ) -> Result<Vec<Ulid>, AllocError>
     ensures { IfOk result (λ tables. tables.items ≡ tables_in tree.now sources.now) }
 {
-    if are_few(sources) {
+    if has_few_flushes(sources) {
         return found_tables(alloc, tree, sources);
     }
     mapped_tables(alloc, tree, sources)
@@ -82,14 +82,7 @@ fn add_found(
 fn found_run(id: u32, tree: &LsmTreeState) -> Option<&SortedRun>
     ensures { option_copied result ≡ run_with (Some id) tree.now.compacted }
 {
-    first_run(id, tree.compacted.as_slice())
-}
-
-// The first run with this id.
-fn first_run(id: u32, runs: &[SortedRun]) -> Option<&SortedRun>
-    ensures { option_copied result ≡ find (λ run. run.id == id) runs.now }
-{
-    runs.iter().find(|run| run.id == id)
+    tree.compacted.with_id(id)
 }
 
 fn add_table_of_flush(tables: &mut Vec<Ulid>, view: Option<&SsTableView>) -> Result<(), AllocError>
@@ -112,7 +105,7 @@ fn add_tables_of_run(tables: &mut Vec<Ulid>, run: Option<&SortedRun>) -> Result<
     Ok(())
 }
 
-// The same, by maps of the whole tree.
+// The same, by a map of the tree's flushes.
 fn mapped_tables(
     alloc: Global,
     tree: &LsmTreeState,
@@ -121,10 +114,9 @@ fn mapped_tables(
     ensures { IfOk result (λ tables. tables.items ≡ tables_in tree.now sources.now) }
 {
     let flushes = flush_tables(alloc, &tree.l0)?;
-    let runs = run_tables(alloc, tree.compacted.as_slice())?;
     let mut tables = Vec::new(alloc);
     'sources: for source in sources {
-        add_tables_of(&mut tables, *source, &flushes, &runs)?;
+        add_tables_of(&mut tables, *source, &flushes, tree)?;
     }
     Ok(tables)
 }
@@ -153,49 +145,19 @@ fn add_flush(tables: &mut BTreeMap<Ulid, Ulid>, view: &SsTableView) -> Result<()
     Ok(())
 }
 
-// The tables of runs, by the ids of the runs. Of runs with one id the first counts.
-fn run_tables(
-    alloc: Global,
-    runs: &[SortedRun],
-) -> Result<BTreeMap<u32, &[SsTableView]>, AllocError>
-    ensures { IfOk result (λ tables. (id : ℕ) → option_copied (get nat_cmp tables id)
-        ≡ option_map (λ run. run.views) (run_with (Some id) runs.now)) }
-{
-    let mut tables = BTreeMap::new(alloc);
-    'runs: for run in runs {
-        add_run(&mut tables, run)?;
-    }
-    Ok(tables)
-}
-
-// Adds the tables of a run, unless there are those of a run with its id.
-fn add_run<'a>(
-    tables: &mut BTreeMap<u32, &'a [SsTableView]>,
-    run: &'a SortedRun,
-) -> Result<(), AllocError>
-    ensures { OnOk result ((id : ℕ) → option_copied (get nat_cmp tables.new id) ≡ option_or
-        (option_copied (get nat_cmp tables.old id))
-        (if run.now.id == id then Some run.now.views else None)) }
-{
-    if !tables.contains_key(&run.id) {
-        tables.insert(run.id, run.sst_views())?;
-    }
-    Ok(())
-}
-
-// Adds the ids of the tables that a source has.
+// Adds the ids of the tables that a source has, if the map has the tables of the tree's flushes.
 fn add_tables_of(
     tables: &mut Vec<Ulid>,
     source: SourceId,
     flushes: &BTreeMap<Ulid, Ulid>,
-    runs: &BTreeMap<u32, &[SsTableView]>,
+    tree: &LsmTreeState,
 ) -> Result<(), AllocError>
-    ensures { (tree : LsmTreeState) → HasTables flushes.now runs.now tree
-        → OnOk result (tables.new.items ≡ tables.old.items ++ tables_of tree source) }
+    ensures { ((id : ℕ) → get nat_cmp flushes.now id ≡ flush_table id tree.now.l0)
+        → OnOk result (tables.new.items ≡ tables.old.items ++ tables_of tree.now source) }
 {
     match source {
         SourceId::SstView(id) => add_flush_table(tables, flushes.get(&id)),
-        SourceId::SortedRun(id) => add_run_tables(tables, runs.get(&id)),
+        SourceId::SortedRun(id) => add_tables_of_run(tables, found_run(id, tree)),
     }
 }
 
@@ -205,16 +167,6 @@ fn add_flush_table(tables: &mut Vec<Ulid>, table: Option<&Ulid>) -> Result<(), A
 {
     if let Some(table) = table {
         tables.push(*table)?;
-    }
-    Ok(())
-}
-
-fn add_run_tables(tables: &mut Vec<Ulid>, views: Option<&&[SsTableView]>) -> Result<(), AllocError>
-    ensures { OnOk result (tables.new.items
-        ≡ tables.old.items ++ tables_if_there (option_copied (option_copied views.entry))) }
-{
-    if let Some(views) = views {
-        add_view_tables(tables, views)?;
     }
     Ok(())
 }
