@@ -1,6 +1,6 @@
 //! The sources of a job, as a manifest has them.
 
-ghost use Rattle.std.specs.Prelude.{◌≡◌, ◌==◌, ◌&&◌, ◌++◌, find, flat_map, map, IfOk, OnOk};
+ghost use Rattle.std.specs.Prelude.{◌≡◌, ◌&&◌, ◌++◌, flat_map, map, IfOk, OnOk};
 ghost use Rattle.std.specs.List.{list_all};
 ghost use Rattle.std.specs.Option.{option_copied, option_to_list};
 ghost use Rattle.fleet_model.specs.Work.Attempts.{is_last};
@@ -48,12 +48,6 @@ fn add_run(views: &mut Vec<SsTableView>, run: Option<&SortedRun>) -> Result<(), 
     }
 }
 
-fn run_with(runs: &[SortedRun], id: u32) -> Option<&SortedRun>
-    ensures { option_copied result ≡ find (λ run. run.id == id) runs.now }
-{
-    runs.iter().find(|run| run.id == id)
-}
-
 // Adds copies of the views that the source has in the tree.
 fn add_source(
     views: &mut Vec<SsTableView>,
@@ -64,7 +58,7 @@ fn add_source(
 {
     match source {
         SourceId::SstView(id) => add_view(views, tree.l0.with_id(*id)),
-        SourceId::SortedRun(id) => add_run(views, run_with(tree.compacted.as_slice(), *id)),
+        SourceId::SortedRun(id) => add_run(views, tree.compacted.with_id(*id)),
     }
 }
 
