@@ -82,7 +82,7 @@ faults_rise None old new e = omega arith
 faults_rise (Some stands) old new e = omega arith
 
 -- A call is one entry.
-step_longer : (merge : Operator) (old new : StoreParts) → CallLeads merge old new → length_of new ≡ length_of old + 1
+pub step_longer : (merge : Operator) (old new : StoreParts) → CallLeads merge old new → length_of new ≡ length_of old + 1
 step_longer merge old new step =
     let x = step.exchange in
     let store = old.world.store in

@@ -5,5 +5,7 @@ pub mod Chains
 pub mod Lone
 pub mod Shared
 pub mod PassCalls
+pub mod LastEntry
+pub mod Tallies
 pub mod Passes
 pub mod Places

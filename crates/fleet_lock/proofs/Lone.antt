@@ -2,7 +2,7 @@
 use Rattle.std.proofs.Common.{◌≡◌, ℕ, List, [], ◌∷◌, ◌++◌, Bool, true, false, if◌then◌else◌, Option, Some, None, Result, Ok, Err, refl, sym, ap, ◌∙◌, subst, arith, true≢false}
 use Rattle.row_model.specs.Fold.{Operator, IsLawful}
 use Rattle.fleet_model.specs.History.{Event}
-use Rattle.fleet_model.specs.Exchanges.{Exchange, PutsRecords, Fault, event_of, waiting_after, does_stand, records_version}
+use Rattle.fleet_model.specs.Exchanges.{Exchange, Fault, event_of, waiting_after, does_stand, records_version}
 use Rattle.fleet_model.specs.Store.{Store}
 use Rattle.step_model.specs.Past.{World}
 use Rattle.step_model.specs.Kept.Keeps.{Keeps}

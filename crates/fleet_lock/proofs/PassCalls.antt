@@ -15,11 +15,12 @@ use Rattle.fleet_store.specs.Asks.{MayCall, ManifestPutFits, RecordsPutFit, Gets
 use Rattle.fleet_store.specs.Called.{Called}
 use Rattle.fleet_lock.specs.Held.{HeldValue, store_of}
 use Rattle.fleet_lock.specs.Names.{name_of}
-use Rattle.fleet_lock.specs.Counts.{length_of, times}
+use Rattle.fleet_lock.specs.Counts.{times}
 use Rattle.fleet_lock.specs.Rule.{HoldsName, Follows, with_ticket, with_turn, after_serving}
-use Rattle.fleet_lock.specs.Passes.{PassValue, IsPass, first_view, pass_view}
+use Rattle.fleet_lock.specs.Passes.{PassValue, IsPass, IsTally, first_view, pass_view}
 use Rattle.fleet_lock.specs.Calls.{Alone, CallStands, Grows, Finds, is_made, lone_view}
 use Rattle.fleet_lock.specs.declared.sight.Sight.{Sight}
+use Rattle.fleet_lock.specs.declared.tally.Tally.{Tally}
 use Rattle.fleet_lock.proofs.Shared.{call_stands, called_shared, follows_found, gets_shared, may_call, may_put_manifest, may_put_records, pass_kept, puts_shared}
 
 -- `inside` is the pass as the code has it, `s` the view of its seat, and `h` the value that it finds.
@@ -53,12 +54,12 @@ module _ (folds : List ℕ → Operator) (lent : ℕ) (inside old : PassValue) (
     kept = record inside { sight = after_serving (with_turn (with_ticket s t) h) left }
 
     -- What the pass keeps, given the view of its seat after the call.
-    pub keeps_through : (inside_views views : List Sight) (parts inside_seen seen : ℕ) → inside.sight ≡ first_view inside_views → IsPass inside_views parts inside_seen inside.party → views ≡ after_serving now left ∷ [] → seen ≡ length_of (store_of left) → IsPass views parts seen inside.party
-    keeps_through inside_views views parts inside_seen seen first kept_before views_are len =
+    pub keeps_through : (inside_views views : List Sight) (parts : ℕ) (inside_tally tally : Tally) → inside.sight ≡ first_view inside_views → IsPass inside_views parts inside_tally inside.party → views ≡ after_serving now left ∷ [] → IsTally tally (after_serving now left) → IsPass views parts tally inside.party
+    keeps_through inside_views views parts inside_tally tally first kept_before views_are tells =
         let same : s ≡ first_view inside_views = seat ∙ first in
         let names = subst (λ (v : Sight). (name : ℕ) → times name v.handed ≤ v.whole + times name v.received) (sym same) kept_before.names in
         let own_parts : parts ≡ s.parts = kept_before.parts_are ∙ ap (λ (v : Sight). v.parts) (sym same) in
-        pass_kept folds lent p h finds holds t made left grows views parts seen names (views_are ∙ ap (λ (v : Sight). after_serving v left ∷ []) now_is) own_parts kept_before.some_part len
+        pass_kept folds lent p h finds holds t made left grows views parts tally names (views_are ∙ ap (λ (v : Sight). after_serving v left ∷ []) now_is) own_parts kept_before.some_part (subst (λ (v : Sight). IsTally tally (after_serving v left)) now_is tells)
 
     -- `new` is the pass after the call.
     module _ (new : PassValue) (table : new.table ≡ inside.table) (view : new.sight ≡ after_serving now left) (line : new.line ≡ inside.line) (party : new.party ≡ inside.party) where

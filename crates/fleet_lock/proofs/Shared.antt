@@ -32,10 +32,11 @@ use Rattle.fleet_lock.specs.Held.{HeldValue, last_from, store_of}
 use Rattle.fleet_lock.specs.Names.{name_of, name_at}
 use Rattle.fleet_lock.specs.Counts.{claims_of, commits_of, length_of, times}
 use Rattle.fleet_lock.specs.Rule.{seen_of, name_count, HoldsName, Front, IsLong, Follows, place_of, with_ticket, with_turn, after_serving}
-use Rattle.fleet_lock.specs.Passes.{PassValue, IsPass, pass_view}
+use Rattle.fleet_lock.specs.Passes.{PassValue, IsPass, IsTally, pass_view}
 use Rattle.fleet_lock.specs.Calls.{Alone, CallStands, Grows, GrowsBy, Finds, StandsAfter, StandsNowhere, is_made, lone_view, struck_by}
 use Rattle.fleet_lock.specs.Steps.{CallLeads, CallsLead}
 use Rattle.fleet_lock.specs.declared.sight.Sight.{Sight}
+use Rattle.fleet_lock.specs.declared.tally.Tally.{Tally}
 use Rattle.fleet_lock.proofs.Fronts.{all_then, append_nil, not_below, below_strictly}
 use Rattle.fleet_lock.proofs.Chains.{last_append, last_push, steps_drop, steps_front, steps_push, chain_longer, step_comes, claims_rise, commits_rise, faults_rise, chain_whole, chain_rivals}
 
@@ -305,10 +306,10 @@ module _ (folds : List ℕ → Operator) (lent : ℕ) (pass : PassValue) (h : He
     }
 
     -- The pass after the call.
-    pub pass_kept : (views : List Sight) (parts seen : ℕ) → ((name : ℕ) → times name pass.sight.handed ≤ pass.sight.whole + times name pass.sight.received) → views ≡ kept.sight ∷ [] → parts ≡ pass.sight.parts → 0 < parts → seen ≡ length_of (store_of left) → IsPass views parts seen pass.party
-    pass_kept views parts seen names is same some len =
-        let k : IsPass (kept.sight ∷ []) parts seen pass.party = record { one = refl; idle = (refl, refl); parts_are = same; some_part = some; seen_is = len ∙ ap length_of (sym seen_now); name = name; names = names } in
-        subst (λ vs. IsPass vs parts seen pass.party) (sym is) k
+    pub pass_kept : (views : List Sight) (parts : ℕ) (tally : Tally) → ((name : ℕ) → times name pass.sight.handed ≤ pass.sight.whole + times name pass.sight.received) → views ≡ kept.sight ∷ [] → parts ≡ pass.sight.parts → 0 < parts → IsTally tally kept.sight → IsPass views parts tally pass.party
+    pass_kept views parts tally names is same some tells =
+        let k : IsPass (kept.sight ∷ []) parts tally pass.party = record { one = refl; idle = (refl, refl); parts_are = same; some_part = some; tally_is = tells; name = name; names = names } in
+        subst (λ vs. IsPass vs parts tally pass.party) (sym is) k
 
     -- ---- where the call stands
 

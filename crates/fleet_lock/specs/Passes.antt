@@ -1,5 +1,5 @@
 -- A pass, as plain data, and what it shows of the store.
-use Rattle.std.specs.Prelude.{◌≡◌, ℕ, ◌+◌, ◌<◌, ◌≤◌, List, [], ◌∷◌, ◌++◌, length, false}
+use Rattle.std.specs.Prelude.{◌≡◌, ℕ, ◌+◌, ◌-◌, ◌^◌, ◌<◌, ◌≤◌, min, List, [], ◌∷◌, ◌++◌, length, false}
 use Rattle.row_model.specs.Fold.{Operator}
 use Rattle.step_model.specs.Views.{SameCaller, StoreView}
 use Rattle.atomic_table.specs.Seated.{TableId}
@@ -11,6 +11,7 @@ use Rattle.fleet_lock.specs.Names.{name_of}
 use Rattle.fleet_lock.specs.Counts.{length_of, times}
 use Rattle.fleet_lock.specs.Rule.{HoldsName, name_count, seen_of, spent_view}
 use Rattle.fleet_lock.specs.declared.sight.Sight.{Sight}
+use Rattle.fleet_lock.specs.declared.tally.Tally.{Tally}
 
 -- The store that the pass is of, what it knows and has, and the line and the party of its entries.
 pub record PassValue : Type 0 where
@@ -31,13 +32,20 @@ IsIdle v = (v.waits ≡ false) × (v.turn ≡ false)
 abbrev pub MayCarry : PassValue → Party → Type 0
 MayCarry pass party = HoldsName pass.sight (name_of (party_of party))
 
+-- The numbers are those of the view: the length of the history that it has seen, and its shares of the claims and the
+-- commits, which are told up to the greatest number.
+pub record IsTally (tally : Tally) (v : Sight) : Type 0 where
+  pub seen_is : tally.seen ≡ length_of (seen_of v)
+  pub claims_are : tally.claims ≡ min v.claims (2 ^ 64 - 1)
+  pub commits_are : tally.commits ≡ min v.commits (2 ^ 64 - 1)
+
 -- What a pass keeps: it is between calls, and holds the name of the party that it carries.
-pub record IsPass (views : List Sight) (parts seen : ℕ) (party : Party) : Type 0 where
+pub record IsPass (views : List Sight) (parts : ℕ) (tally : Tally) (party : Party) : Type 0 where
   pub one : views ≡ first_view views ∷ []
   pub idle : IsIdle (first_view views)
   pub parts_are : parts ≡ (first_view views).parts
   pub some_part : 0 < parts
-  pub seen_is : seen ≡ length_of (seen_of (first_view views))
+  pub tally_is : IsTally tally (first_view views)
   pub name : HoldsName (first_view views) (name_of (party_of party))
   pub names : (name : ℕ)
       → times name (first_view views).handed ≤ (first_view views).whole + times name (first_view views).received

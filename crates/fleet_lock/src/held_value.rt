@@ -10,6 +10,7 @@ ghost use Rattle.fleet_lock.specs.Steps.{CallsLead};
 use crate::calls;
 use crate::folds::{Folds, Lent};
 use crate::holds::Holds;
+use crate::last_entry::{last_claims, last_commits};
 use fleet_book::{Compactions, VersionedCompactions};
 use fleet_history::{ManifestChange, Note, Party, RecordChange};
 use fleet_rows::{SlateDBError, Ulid};
@@ -124,6 +125,14 @@ impl<O: Folds> Holds for Held<'_, O> {
 
     fn len(&self) -> u64 {
         self.store.history().len() as u64
+    }
+
+    fn last_claims(&self) -> u64 {
+        last_claims(self.store.history())
+    }
+
+    fn last_commits(&self) -> u64 {
+        last_commits(self.store.history())
     }
 
     fn get_manifest(&mut self, line: u64, party: Party) -> Result<VersionedManifest, SlateDBError> {

@@ -7,7 +7,7 @@ ghost use Rattle.fleet_store.specs.Asks as asks;
 ghost use Rattle.fleet_store.specs.Exchanges.{noted_exchange};
 ghost use Rattle.fleet_store.specs.Manifests.{jobs_shown};
 ghost use Rattle.fleet_lock.specs.Calls.{Alone, Grows, MayAlone, is_made};
-ghost use Rattle.fleet_lock.specs.Counts.{length_of};
+ghost use Rattle.fleet_lock.specs.Counts.{LastAdds, claims_in, commits_in, length_of};
 ghost use Rattle.fleet_lock.specs.Held.{HeldValue, store_of};
 ghost use Rattle.fleet_lock.specs.Steps.{CallsLead};
 ghost use Rattle.step_model.specs.Kept.Keeps.{Keeps};
@@ -36,6 +36,14 @@ pub trait Holds: Drop {
     /// The length of the history.
     fn len(&self) -> u64
         ensures { result ≡ length_of (store_of (value self.now)) };
+
+    /// How many attempts the last entry of the history claims.
+    fn last_claims(&self) -> u64
+        ensures { LastAdds claims_in result (store_of (value self.now)).world.store.history };
+
+    /// How many finished jobs the last entry of the history completes.
+    fn last_commits(&self) -> u64
+        ensures { LastAdds commits_in result (store_of (value self.now)).world.store.history };
 
     fn get_manifest(&mut self, line: u64, party: Party) -> Result<VersionedManifest, SlateDBError>
         ensures grows { Grows (folds (value self.old).settings) line party (is_made result)

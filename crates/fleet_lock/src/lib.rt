@@ -5,11 +5,13 @@ mod calls;
 mod folds;
 mod held_value;
 mod holds;
+mod last_entry;
 mod laws;
 mod lock;
 mod pass;
 mod pass_store;
 mod sight;
+mod tally;
 
 pub use folds::Folds;
 pub use held_value::Held;

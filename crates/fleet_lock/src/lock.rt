@@ -8,7 +8,7 @@ ghost use Rattle.fleet_lock.specs.Calls.{Closes, Finds};
 ghost use Rattle.fleet_lock.specs.Counts.{length_of};
 ghost use Rattle.fleet_lock.specs.Held.{HeldValue, held_store, store_of};
 ghost use Rattle.fleet_lock.specs.Names.{name_of};
-ghost use Rattle.fleet_lock.specs.Passes.{IsFirst, IsIdle, MayCarry, first_view};
+ghost use Rattle.fleet_lock.specs.Passes.{IsFirst, IsIdle, IsTally, MayCarry, first_view};
 ghost use Rattle.fleet_lock.specs.Rule.{Follows, GetsTurn, HoldsName, IsFoundBy, IsFront, IsWaiting, after_serving, joined_view, keeps_less, longer, newcomer, shorter, with_ticket, with_turn};
 
 use crate::folds::{Folds, lend};
@@ -16,6 +16,7 @@ use crate::held_value::Held;
 use crate::holds::Holds;
 use crate::pass::Pass;
 use crate::sight::Sight;
+use crate::tally::Tally;
 use atomic_table::{Badge, Join, Play, Seat, Split, Table, TableRule};
 use fleet_fold::MergeOperator;
 use fleet_history::Party;
@@ -175,12 +176,12 @@ impl<'o, O: Folds> Lock<Held<'o, O>> {
         let Pass {
             mut badge,
             parts: _,
-            seen: _,
+            mut tally,
             line: _,
             party: _,
         } = pass;
         let mut seat: Place<Held<'o, O>> = seat_of(&mut badge);
-        let held = self.enter(rt, &mut seat);
+        let held = self.enter(rt, &mut seat, &mut tally);
         held.into_store()
     }
 }
@@ -207,7 +208,7 @@ impl<S: Holds> Lock<S> {
         let new = self.cut::<Brand>(&mut seat, party);
         pass.badge = seat.into_badge();
         pass.parts -= 1;
-        Pass::of(new, 1, pass.seen, pass.line, party)
+        Pass::of(new, 1, pass.tally.seen, pass.line, party)
     }
 
     /// Takes in what another pass has: its parts, shares, places and names. The pass has then seen
@@ -224,7 +225,7 @@ impl<S: Holds> Lock<S> {
         let Pass {
             mut badge,
             parts,
-            seen,
+            tally,
             line: _,
             party: _,
         } = from;
@@ -234,7 +235,7 @@ impl<S: Holds> Lock<S> {
         self.table.shared.load::<Tell>(&mut seat, 1);
         into.badge = seat.into_badge();
         into.parts += parts;
-        into.seen = into.seen.max(seen);
+        into.tally = into.tally.joined(tally);
     }
 }
 
@@ -309,39 +310,42 @@ impl<S: Holds> Lock<S> {
     }
 
     // Draws a ticket, waits until it is served, and takes the store out.
-    pub(crate) fn enter<R: Wait>(&self, rt: &R, seat: &mut Place<S>) -> S
+    pub(crate) fn enter<R: Wait>(&self, rt: &R, seat: &mut Place<S>, tally: &mut Tally) -> S
         requires own { seat.old.table_id ≡ table_of self.now }
         requires free { seat.old.me.1 ≡ [] }
         requires idle { IsIdle seat.old.me.0 }
         requires part { 0 < seat.old.me.0.parts }
+        requires tally { IsTally tally.old seat.old.me.0 }
         ensures own { seat.new.table_id ≡ seat.old.table_id }
         ensures turn { (t : ℕ) × (seat.new.me
             ≡ (with_turn (with_ticket seat.old.me.0 t) (S.value result), (0, None) ∷ [])) }
         ensures found { Finds S.folds seat.old.me.0 (S.value result) }
+        ensures tally { IsTally tally.new seat.new.me.0 }
     {
         let ticket = self.draw(seat);
         self.wait(rt, seat, ticket);
         let held = self.take(seat);
         held.known();
+        tally.seen = held.len();
         held
     }
 
-    // Gives the store back, and serves the next ticket. The answer is the length of its history.
-    pub(crate) fn leave(&self, seat: &mut Place<S>, held: S) -> u64
+    // Gives the store back, and serves the next ticket.
+    pub(crate) fn leave(&self, seat: &mut Place<S>, held: S, tally: &mut Tally)
         requires own { seat.old.table_id ≡ table_of self.now }
         requires out { seat.old.me.1 ≡ (0, None) ∷ [] }
         requires turn { seat.old.me.0.turn ≡ true }
         requires follows { Follows seat.old.me.0 (S.value held) }
+        requires tally { IsTally tally.old seat.old.me.0 }
         ensures own { seat.new.table_id ≡ seat.old.table_id }
         ensures left { seat.new.me ≡ (after_serving seat.old.me.0 (S.value held), []) }
-        ensures len { result ≡ length_of (store_of (S.value held)) }
+        ensures tally { IsTally tally.new seat.new.me.0 }
     {
-        let len = held.len();
+        *tally = tally.after(&held);
         let None = self.table.shared.exchange(seat, 0, Some(held)) else {
             unreachable!()
         };
         self.table.shared.fetch_add::<Serve>(seat, 1, 1);
-        len
     }
 }
 

@@ -1,6 +1,6 @@
 //! What a thread carries.
 
-ghost use Rattle.std.specs.Prelude.{◌≡◌, ◌+◌, ◌<◌, ◌≤◌, ℕ, []};
+ghost use Rattle.std.specs.Prelude.{◌≡◌, ◌+◌, ◌-◌, ◌^◌, ◌<◌, ◌≤◌, ℕ, [], min};
 ghost use Rattle.fleet_lock.specs.Counts.{length_of, times};
 ghost use Rattle.fleet_lock.specs.Names.{name_of};
 ghost use Rattle.fleet_lock.specs.Passes.{IsIdle, MayCarry};
@@ -9,6 +9,7 @@ ghost use Rattle.fleet_history.specs.Parties.{party_of};
 
 use crate::holds::Holds;
 use crate::sight::Sight;
+use crate::tally::Tally;
 use atomic_table::{Badge, Seat};
 use fleet_history::Party;
 use std::marker::Model;
@@ -19,7 +20,7 @@ use std::marker::Model;
 pub struct Pass {
     pub(crate) badge: Badge<Sight>,
     pub(crate) parts: u32,
-    pub(crate) seen: u64,
+    pub(crate) tally: Tally,
     pub(crate) line: u64,
     pub(crate) party: Party,
 }
@@ -36,7 +37,7 @@ impl Model for Pass {
       party = p.party;
     } };
 
-    ghost invariant = { λ p. IsPass p.badge.views p.parts p.seen p.party };
+    ghost invariant = { λ p. IsPass p.badge.views p.parts p.tally p.party };
 }
 
 impl Pass {
@@ -52,6 +53,8 @@ impl Pass {
         requires parts { seat.me.0.parts ≡ parts }
         requires some_part { 0 < parts }
         requires seen { seen ≡ length_of (seen_of seat.me.0) }
+        requires no_claims { seat.me.0.claims ≡ 0 }
+        requires no_commits { seat.me.0.commits ≡ 0 }
         requires name { HoldsName seat.me.0 (name_of (party_of party)) }
         requires names { (name : ℕ)
             → times name seat.me.0.handed ≤ seat.me.0.whole + times name seat.me.0.received }
@@ -65,7 +68,7 @@ impl Pass {
         Pass {
             badge: seat.into_badge(),
             parts,
-            seen,
+            tally: Tally::new(seen),
             line,
             party,
         }
@@ -91,7 +94,21 @@ impl Pass {
     pub fn seen(&self) -> u64
         ensures { result ≡ length_of (seen_of self.now.sight) }
     {
-        self.seen
+        self.tally.seen
+    }
+
+    /// Its share of the claims, or 2^64 - 1 if the share is greater.
+    pub fn claims(&self) -> u64
+        ensures { result ≡ min self.now.sight.claims (2 ^ 64 - 1) }
+    {
+        self.tally.claims
+    }
+
+    /// Its share of the commits, or 2^64 - 1 if the share is greater.
+    pub fn commits(&self) -> u64
+        ensures { result ≡ min self.now.sight.commits (2 ^ 64 - 1) }
+    {
+        self.tally.commits
     }
 
     /// The number of its parts.

@@ -63,9 +63,9 @@ impl<S: Holds, R: Wait> Store for Through<'_, S, R> {
     {
         let pass = &mut *self.pass;
         let mut seat: Place<S> = seat_of(&mut pass.badge);
-        let mut held = self.shared.enter(self.rt, &mut seat);
+        let mut held = self.shared.enter(self.rt, &mut seat, &mut pass.tally);
         let answer = held.get_manifest(pass.line, pass.party);
-        pass.seen = self.shared.leave(&mut seat, held);
+        self.shared.leave(&mut seat, held, &mut pass.tally);
         pass.badge = seat.into_badge();
         answer
     }
@@ -85,9 +85,9 @@ impl<S: Holds, R: Wait> Store for Through<'_, S, R> {
     {
         let pass = &mut *self.pass;
         let mut seat: Place<S> = seat_of(&mut pass.badge);
-        let mut held = self.shared.enter(self.rt, &mut seat);
+        let mut held = self.shared.enter(self.rt, &mut seat, &mut pass.tally);
         let answer = held.put_manifest(pass.line, pass.party, version, value, why, jobs);
-        pass.seen = self.shared.leave(&mut seat, held);
+        self.shared.leave(&mut seat, held, &mut pass.tally);
         pass.badge = seat.into_badge();
         answer
     }
@@ -99,9 +99,9 @@ impl<S: Holds, R: Wait> Store for Through<'_, S, R> {
     {
         let pass = &mut *self.pass;
         let mut seat: Place<S> = seat_of(&mut pass.badge);
-        let mut held = self.shared.enter(self.rt, &mut seat);
+        let mut held = self.shared.enter(self.rt, &mut seat, &mut pass.tally);
         let answer = held.get_records(pass.line, pass.party);
-        pass.seen = self.shared.leave(&mut seat, held);
+        self.shared.leave(&mut seat, held, &mut pass.tally);
         pass.badge = seat.into_badge();
         answer
     }
@@ -119,9 +119,9 @@ impl<S: Holds, R: Wait> Store for Through<'_, S, R> {
     {
         let pass = &mut *self.pass;
         let mut seat: Place<S> = seat_of(&mut pass.badge);
-        let mut held = self.shared.enter(self.rt, &mut seat);
+        let mut held = self.shared.enter(self.rt, &mut seat, &mut pass.tally);
         let answer = held.put_records(pass.line, pass.party, version, value, why);
-        pass.seen = self.shared.leave(&mut seat, held);
+        self.shared.leave(&mut seat, held, &mut pass.tally);
         pass.badge = seat.into_badge();
         answer
     }
@@ -134,9 +134,9 @@ impl<S: Holds, R: Wait> Store for Through<'_, S, R> {
     {
         let pass = &mut *self.pass;
         let mut seat: Place<S> = seat_of(&mut pass.badge);
-        let mut held = self.shared.enter(self.rt, &mut seat);
+        let mut held = self.shared.enter(self.rt, &mut seat, &mut pass.tally);
         let answer = held.put_table(pass.line, pass.party, id, table);
-        pass.seen = self.shared.leave(&mut seat, held);
+        self.shared.leave(&mut seat, held, &mut pass.tally);
         pass.badge = seat.into_badge();
         answer
     }
@@ -148,9 +148,9 @@ impl<S: Holds, R: Wait> Store for Through<'_, S, R> {
     {
         let pass = &mut *self.pass;
         let mut seat: Place<S> = seat_of(&mut pass.badge);
-        let mut held = self.shared.enter(self.rt, &mut seat);
+        let mut held = self.shared.enter(self.rt, &mut seat, &mut pass.tally);
         let answer = held.get_table(pass.line, pass.party, id);
-        pass.seen = self.shared.leave(&mut seat, held);
+        self.shared.leave(&mut seat, held, &mut pass.tally);
         pass.badge = seat.into_badge();
         answer
     }
@@ -162,9 +162,9 @@ impl<S: Holds, R: Wait> Store for Through<'_, S, R> {
     {
         let pass = &mut *self.pass;
         let mut seat: Place<S> = seat_of(&mut pass.badge);
-        let mut held = self.shared.enter(self.rt, &mut seat);
+        let mut held = self.shared.enter(self.rt, &mut seat, &mut pass.tally);
         let answer = held.draw_job(pass.line, pass.party, moment);
-        pass.seen = self.shared.leave(&mut seat, held);
+        self.shared.leave(&mut seat, held, &mut pass.tally);
         pass.badge = seat.into_badge();
         answer
     }
@@ -177,9 +177,9 @@ impl<S: Holds, R: Wait> Store for Through<'_, S, R> {
     {
         let pass = &mut *self.pass;
         let mut seat: Place<S> = seat_of(&mut pass.badge);
-        let mut held = self.shared.enter(self.rt, &mut seat);
+        let mut held = self.shared.enter(self.rt, &mut seat, &mut pass.tally);
         let answer = held.note(pass.line, pass.party, note);
-        pass.seen = self.shared.leave(&mut seat, held);
+        self.shared.leave(&mut seat, held, &mut pass.tally);
         pass.badge = seat.into_badge();
         answer
     }
@@ -191,9 +191,9 @@ impl<S: Holds, R: Wait> Store for Through<'_, S, R> {
     {
         let pass = &mut *self.pass;
         let mut seat: Place<S> = seat_of(&mut pass.badge);
-        let mut held = self.shared.enter(self.rt, &mut seat);
+        let mut held = self.shared.enter(self.rt, &mut seat, &mut pass.tally);
         let answer = held.draw_table(pass.line, pass.party, moment);
-        pass.seen = self.shared.leave(&mut seat, held);
+        self.shared.leave(&mut seat, held, &mut pass.tally);
         pass.badge = seat.into_badge();
         answer
     }

@@ -2,6 +2,7 @@ use Rattle.std.proofs.Common.{◌≡◌, ◌∙◌, ◌+◌, ◌∷◌, [], ap, 
 use Rattle.fleet_lock.specs.Passes.{IsPass, PassValue, first_view}
 use Rattle.fleet_lock.specs.Rule.{IsFront, joined_view}
 use Rattle.fleet_lock.specs.declared.sight.Sight.{Sight}
+use Rattle.fleet_lock.specs.declared.tally.Tally.{Tally}
 use Rattle.fleet_lock.proofs.Moves.{joins_as, tells_as}
 use Rattle.fleet_lock.proofs.Passes.{join_keeps, same_base}
 use Rattle.fleet_lock.proofs.lock.Lock.join.Goals as goal
@@ -20,8 +21,8 @@ join_seat-requires g c =
       joins_as g.S.Holds.value _ _ _ _ _ _ _ (ap (λ m. m.0) e.view) (ap (λ m. m.0) f.view) (omega (arith, i.parts_are, i.some_part)) i.idle.0 i.idle.1 (omega (arith, j.parts_are, j.some_part)) j.idle.0 j.idle.1,
     )
 
-pub load-into-inside-requires : goal.load-into-inside-requires
-load-into-inside-requires g c =
+pub load-requires : goal.load-requires
+load-requires g c =
     let e = c.seat_of-seat.ensures in
     let j = c.join_seat.ensures in
     let i = c.into.invariant in
@@ -40,8 +41,8 @@ invariant_of-into g c =
     let seen : c.join_seat.new.seat.me.0 ≡ joined_view (first_view c.into.inside.badge.views) (first_view c.from.inside.badge.views) =
     ap (λ m. m.0) c.join_seat.ensures.2 ∙ (λ i. joined_view (ap (λ m. m.0) e.view i) (ap (λ m. m.0) f.view i)) in
     let views : c.into_badge.result.views ≡ joined_view (first_view c.into.inside.badge.views) (first_view c.from.inside.badge.views) ∷ [] =
-    c.into_badge.ensures.2 ∙ ap (λ m. m.0 ∷ []) c.load-into-inside.ensures.2.0 ∙ ap (λ (v : Sight). v ∷ []) seen in
-    subst (λ n. IsPass c.into_badge.result.views (c.into.inside.parts + c.from.inside.parts) n c.into.inside.party) (sym c.max-into-inside.ensures) (join_keeps _ _ _ _ _ _ _ _ _ c.into.invariant c.from.invariant views)
+    c.into_badge.ensures.2 ∙ ap (λ m. m.0 ∷ []) c.load.ensures.2.0 ∙ ap (λ (v : Sight). v ∷ []) seen in
+    subst (λ (tally : Tally). IsPass c.into_badge.result.views (c.into.inside.parts + c.from.inside.parts) tally c.into.inside.party) (sym c.joined-into-inside.ensures) (join_keeps _ _ _ _ _ _ _ _ _ c.into.invariant c.from.invariant views)
 
 pub returns-clause-base : goal.returns-clause-base
 returns-clause-base g c =
@@ -49,7 +50,7 @@ returns-clause-base g c =
     let f = c.seat_of-other.ensures in
     let seen : c.join_seat.new.seat.me.0 ≡ joined_view c.args.into.now.sight c.args.from.sight =
     ap (λ m. m.0) c.join_seat.ensures.2 ∙ (λ i. joined_view (ap (λ m. m.0) e.view i) (ap (λ m. m.0) f.view i)) ∙ (λ i. joined_view (c.into.view_is i).sight (c.from.view_is i).sight) in
-    same_base c.args.into.now.sight c.args.from.sight (subst (λ (v : Sight). v.other_base ≡ v.base) seen c.load-into-inside.ensures.2.2)
+    same_base c.args.into.now.sight c.args.from.sight (subst (λ (v : Sight). v.other_base ≡ v.base) seen c.load.ensures.2.2)
 
 pub returns-clause-front : goal.returns-clause-front
 returns-clause-front g c =
@@ -57,4 +58,4 @@ returns-clause-front g c =
     let f = c.seat_of-other.ensures in
     let seen : c.join_seat.new.seat.me.0 ≡ joined_view c.args.into.now.sight c.args.from.sight =
     ap (λ m. m.0) c.join_seat.ensures.2 ∙ (λ i. joined_view (ap (λ m. m.0) e.view i) (ap (λ m. m.0) f.view i)) ∙ (λ i. joined_view (c.into.view_is i).sight (c.from.view_is i).sight) in
-    subst (λ (v : Sight). IsFront v.other_trace v.trace) seen c.load-into-inside.ensures.2.3
+    subst (λ (v : Sight). IsFront v.other_trace v.trace) seen c.load.ensures.2.3

@@ -4,8 +4,8 @@ use Rattle.fleet_lock.specs.Passes.{first_view}
 use Rattle.fleet_lock.proofs.PassCalls.{called_through, follows_through, stands_through}
 use Rattle.fleet_lock.proofs.pass_store.ThroughStore.draw_table.Goals as goal
 
-pub leave-pass-inside-requires-clause-follows : goal.leave-pass-inside-requires-clause-follows
-leave-pass-inside-requires-clause-follows g c =
+pub leave-requires-clause-follows : goal.leave-requires-clause-follows
+leave-requires-clause-follows g c =
     follows_through g.S.Holds.folds c.args.self.now.pass.ghost_name _ _ c.pass.view_is c.seat_of-seat.result.me.0 (ap (λ m. m.0) c.seat_of-seat.ensures.view) (g.S.Holds.value c.enter-held.result) c.enter-held.ensures.found c.pass.invariant.name
     c.enter-held.ensures.turn.0 _ (g.S.Holds.value c.draw_table-answer.new.self) c.draw_table-answer.ensures.grows c.enter-held.new.seat.me.0 (ap (λ m. m.0) c.enter-held.ensures.turn.1)
 
@@ -14,7 +14,7 @@ returns-clause-asked g c =
     called_through g.S.Holds.folds c.args.self.now.pass.ghost_name _ _ c.pass.view_is c.seat_of-seat.result.me.0 (ap (λ m. m.0) c.seat_of-seat.ensures.view) (g.S.Holds.value c.enter-held.result) c.enter-held.ensures.found c.pass.invariant.name
     c.enter-held.ensures.turn.0 _ (g.S.Holds.value c.draw_table-answer.new.self) c.draw_table-answer.ensures.grows c.enter-held.new.seat.me.0 (ap (λ m. m.0) c.enter-held.ensures.turn.1)
     (record { table = c.into_badge.result.table_id; sight = first_view c.into_badge.result.views; line = c.pass.inside.line; party = c.pass.inside.party })
-    (c.into_badge.ensures.0 ∙ (c.leave-pass-inside.ensures.own ∙ (c.enter-held.ensures.own ∙ c.seat_of-seat.ensures.own))) (ap first_view c.into_badge.ensures.2 ∙ ap (λ m. m.0) c.leave-pass-inside.ensures.left) refl refl
+    (c.into_badge.ensures.0 ∙ (c.leave.ensures.own ∙ (c.enter-held.ensures.own ∙ c.seat_of-seat.ensures.own))) (ap first_view c.into_badge.ensures.2 ∙ ap (λ m. m.0) c.leave.ensures.left) refl refl
     (λ met. DrawsTable c.args.moment) _ _ c.draw_table-answer.result c.draw_table-answer.ensures.asked
 
 pub returns-clause-stands : goal.returns-clause-stands
@@ -22,5 +22,5 @@ returns-clause-stands g c =
     stands_through g.S.Holds.folds c.args.self.now.pass.ghost_name _ _ c.pass.view_is c.seat_of-seat.result.me.0 (ap (λ m. m.0) c.seat_of-seat.ensures.view) (g.S.Holds.value c.enter-held.result) c.enter-held.ensures.found c.pass.invariant.name
     c.enter-held.ensures.turn.0 _ (g.S.Holds.value c.draw_table-answer.new.self) c.draw_table-answer.ensures.grows c.enter-held.new.seat.me.0 (ap (λ m. m.0) c.enter-held.ensures.turn.1)
     (record { table = c.into_badge.result.table_id; sight = first_view c.into_badge.result.views; line = c.pass.inside.line; party = c.pass.inside.party })
-    (c.into_badge.ensures.0 ∙ (c.leave-pass-inside.ensures.own ∙ (c.enter-held.ensures.own ∙ c.seat_of-seat.ensures.own))) (ap first_view c.into_badge.ensures.2 ∙ ap (λ m. m.0) c.leave-pass-inside.ensures.left) refl refl
+    (c.into_badge.ensures.0 ∙ (c.leave.ensures.own ∙ (c.enter-held.ensures.own ∙ c.seat_of-seat.ensures.own))) (ap first_view c.into_badge.ensures.2 ∙ ap (λ m. m.0) c.leave.ensures.left) refl refl
     (λ met. DrawsTable c.args.moment) _ _ c.draw_table-answer.result refl c.draw_table-answer.ensures.asked

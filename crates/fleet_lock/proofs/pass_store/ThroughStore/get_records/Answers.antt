@@ -5,8 +5,8 @@ use Rattle.fleet_lock.specs.Passes.{first_view}
 use Rattle.fleet_lock.proofs.PassCalls.{follows_through, gets_through, stands_through}
 use Rattle.fleet_lock.proofs.pass_store.ThroughStore.get_records.Goals as goal
 
-pub leave-pass-inside-requires-clause-follows : goal.leave-pass-inside-requires-clause-follows
-leave-pass-inside-requires-clause-follows g c =
+pub leave-requires-clause-follows : goal.leave-requires-clause-follows
+leave-requires-clause-follows g c =
     follows_through g.S.Holds.folds c.args.self.now.pass.ghost_name _ _ c.pass.view_is c.seat_of-seat.result.me.0 (ap (λ m. m.0) c.seat_of-seat.ensures.view) (g.S.Holds.value c.enter-held.result) c.enter-held.ensures.found c.pass.invariant.name
     c.enter-held.ensures.turn.0 _ (g.S.Holds.value c.get_records-answer.new.self) c.get_records-answer.ensures.grows c.enter-held.new.seat.me.0 (ap (λ m. m.0) c.enter-held.ensures.turn.1)
 
@@ -15,7 +15,7 @@ returns-clause-asked g c =
     gets_through g.S.Holds.folds c.args.self.now.pass.ghost_name _ _ c.pass.view_is c.seat_of-seat.result.me.0 (ap (λ m. m.0) c.seat_of-seat.ensures.view) (g.S.Holds.value c.enter-held.result) c.enter-held.ensures.found c.pass.invariant.name
     c.enter-held.ensures.turn.0 _ (g.S.Holds.value c.get_records-answer.new.self) c.get_records-answer.ensures.grows c.enter-held.new.seat.me.0 (ap (λ m. m.0) c.enter-held.ensures.turn.1)
     (record { table = c.into_badge.result.table_id; sight = first_view c.into_badge.result.views; line = c.pass.inside.line; party = c.pass.inside.party })
-    (c.into_badge.ensures.0 ∙ (c.leave-pass-inside.ensures.own ∙ (c.enter-held.ensures.own ∙ c.seat_of-seat.ensures.own))) (ap first_view c.into_badge.ensures.2 ∙ ap (λ m. m.0) c.leave-pass-inside.ensures.left) refl refl
+    (c.into_badge.ensures.0 ∙ (c.leave.ensures.own ∙ (c.enter-held.ensures.own ∙ c.seat_of-seat.ensures.own))) (ap first_view c.into_badge.ensures.2 ∙ ap (λ m. m.0) c.leave.ensures.left) refl refl
     c.get_records-answer.result c.get_records-answer.ensures.asked
 
 pub returns-clause-stands : goal.returns-clause-stands
@@ -23,5 +23,5 @@ returns-clause-stands g c =
     stands_through g.S.Holds.folds c.args.self.now.pass.ghost_name _ _ c.pass.view_is c.seat_of-seat.result.me.0 (ap (λ m. m.0) c.seat_of-seat.ensures.view) (g.S.Holds.value c.enter-held.result) c.enter-held.ensures.found c.pass.invariant.name
     c.enter-held.ensures.turn.0 _ (g.S.Holds.value c.get_records-answer.new.self) c.get_records-answer.ensures.grows c.enter-held.new.seat.me.0 (ap (λ m. m.0) c.enter-held.ensures.turn.1)
     (record { table = c.into_badge.result.table_id; sight = first_view c.into_badge.result.views; line = c.pass.inside.line; party = c.pass.inside.party })
-    (c.into_badge.ensures.0 ∙ (c.leave-pass-inside.ensures.own ∙ (c.enter-held.ensures.own ∙ c.seat_of-seat.ensures.own))) (ap first_view c.into_badge.ensures.2 ∙ ap (λ m. m.0) c.leave-pass-inside.ensures.left) refl refl
+    (c.into_badge.ensures.0 ∙ (c.leave.ensures.own ∙ (c.enter-held.ensures.own ∙ c.seat_of-seat.ensures.own))) (ap first_view c.into_badge.ensures.2 ∙ ap (λ m. m.0) c.leave.ensures.left) refl refl
     (λ met. Plain GetRecords) _ _ c.get_records-answer.result refl (c.get_records-answer.ensures.asked.0, c.get_records-answer.ensures.asked.1.called)
