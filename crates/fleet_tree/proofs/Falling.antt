@@ -1,15 +1,16 @@
 -- Runs whose ids fall, and the places of runs among them.
-use Rattle.std.proofs.Common.{◌≡◌, refl, sym, ◌∙◌, ap, subst, ℕ, zero, suc, ◌<◌, ◌≤◌, ◌⊎◌, inl, inr, List, [], ◌∷◌, ◌++◌, ◌-◌, ◌≢◌, length, get_or, drop, Bool, true, false, not, cond, ◌+◌, arith}
-use Rattle.std.specs.Prelude.{◌==◌, ◌&&◌, nat_lt, slice_get, Option, Some, None}
+use Rattle.std.proofs.Common.{◌≡◌, refl, sym, ap, subst, ℕ, zero, suc, ◌<◌, ◌≤◌, ◌⊎◌, inl, inr, List, [], ◌∷◌, ◌++◌, ◌-◌, ◌≢◌, length, get_or, drop, Bool, true, false, not, cond, ◌+◌, arith}
+use Rattle.std.specs.Prelude.{◌==◌, ◌&&◌, ◌||◌, nat_lt, slice_get, take, Option, Some, None}
 use Rattle.std.specs.List.{HoldsAt, position_or_len}
 use Rattle.std.specs.List.Sorted.{IsNonDecreasingBy, IsPartitionPoint}
 use Rattle.std.specs.Ordering.{MatchOrdering, nat_cmp, ordering_index}
 use Rattle.std.specs.declared.cmp.Ordering.{Ordering}
 use Rattle.std.specs.declared.cmp.Ordering.TheVariants.{Less, Equal, Greater}
-use Rattle.std.proofs.lemmas.Bool.{and_parts, cases_lt, eq-eqb, ltb-true, ne_eqb}
+use Rattle.std.proofs.lemmas.Bool.{and_parts, cases_lt, eq-eqb, lt-ltb, ltb-true, ne_eqb}
 use Rattle.std.proofs.lemmas.Cmp.{ranked}
 use Rattle.std.proofs.lemmas.List.Sums.{position_or_len_is}
-use Rattle.fleet_tree.specs.Falling.{are_falling, is_above_first}
+use Rattle.fleet_tree.specs.Falling.{are_falling, fits_between, is_above_first, is_below_last}
+use Rattle.fleet_tree.specs.Lists.{or_none, spliced}
 use Rattle.fleet_tree.specs.declared.run.SortedRun.{SortedRun}
 
 -- Runs fall if the first is above the second, and the others fall.
@@ -144,3 +145,93 @@ module _ (id : ℕ) (runs : List SortedRun) (falls : are_falling runs ≡ true) 
       differs : (k : ℕ) → k < length runs → (k < gap) ⊎ (gap ≤ k) → has (get_or runs k any) ≡ false
       differs k within (inl before) = lower_is_other id (get_or runs k any).id ((parted rises).0 k any (omega arith) before)
       differs k within (inr after) = higher_is_other id (get_or runs k any).id ((parted rises).1 k any after within)
+
+-- ---- an exchange of a part
+
+-- What is behind falling runs falls.
+pub falling_behind : (count : ℕ) (runs : List SortedRun) → are_falling runs ≡ true → are_falling (drop count runs) ≡ true
+falling_behind zero runs falls = falls
+falling_behind (suc count) [] falls = refl
+falling_behind (suc count) (run ∷ runs) falls = falling_behind count runs (and_parts (is_above_first run runs) (are_falling runs) falls).1
+
+-- A run above the first of falling runs is above those behind.
+above_behind : (count : ℕ) (run : SortedRun) (runs : List SortedRun) → is_above_first run runs ≡ true → are_falling runs ≡ true → is_above_first run (drop count runs) ≡ true
+above_behind zero run runs above falls = above
+above_behind (suc count) run [] above falls = refl
+above_behind (suc count) run (next ∷ runs) above falls =
+    let parts = and_parts (is_above_first next runs) (are_falling runs) falls in
+    let lower = ltb-true next.id run.id above in
+    above_behind count run runs (through runs parts.0 lower) parts.1
+  where
+    through : (runs : List SortedRun) → is_above_first next runs ≡ true → next.id < run.id → is_above_first run runs ≡ true
+    through [] above lower = refl
+    through (other ∷ others) above lower =
+        let upto = ltb-true other.id next.id above in
+        lt-ltb other.id run.id (omega (arith, upto, lower))
+
+both : (a b : Bool) → a ≡ true → b ≡ true → (a && b) ≡ true
+both true true x y = refl
+both true false x y = y
+both false b x y = x
+
+-- The runs without those from one place up to another, and with a run there if one is given.
+abbrev exchanged : (place end : ℕ) → Option SortedRun → List SortedRun → List SortedRun
+exchanged place end run runs = take place runs ++ or_none run ++ drop end runs
+
+-- Falling runs fall after an exchange of a part by a run that fits.
+falling_exchanged : (runs : List SortedRun) (place end : ℕ) (run : Option SortedRun) → place ≤ end → are_falling runs ≡ true
+    → fits_between runs place end run ≡ true → are_falling (exchanged place end run runs) ≡ true
+falling_exchanged runs zero end None upto falls fits = falling_behind end runs falls
+falling_exchanged runs zero end (Some run) upto falls fits =
+    both (is_above_first run (drop end runs)) (are_falling (drop end runs)) fits (falling_behind end runs falls)
+falling_exchanged runs (suc place) zero run upto falls fits = absurd (omega (arith, upto))
+falling_exchanged [] (suc place) (suc end) None upto falls fits = refl
+falling_exchanged [] (suc place) (suc end) (Some run) upto falls fits = refl
+falling_exchanged (first ∷ runs) (suc place) (suc end) run upto falls fits =
+    let parts = and_parts (is_above_first first runs) (are_falling runs) falls in
+    both (is_above_first first (exchanged place end run runs)) (are_falling (exchanged place end run runs))
+    (still_above place runs run parts.0 parts.1 fits) (falling_exchanged runs place end run (omega (arith, upto)) parts.1 (later place runs run fits))
+  where
+    later : (place : ℕ) (runs : List SortedRun) (run : Option SortedRun) → fits_between (first ∷ runs) (suc place) (suc end) run ≡ true
+        → fits_between runs place end run ≡ true
+    later place runs None fits = refl
+    later zero runs (Some run) fits = (and_parts (is_below_last run (first ∷ [])) (is_above_first run (drop end runs)) fits).1
+    later (suc place) [] (Some run) fits = (and_parts (is_below_last run (first ∷ [])) (is_above_first run (drop end [])) fits).1
+    later (suc place) (next ∷ runs) (Some run) fits = fits
+
+    still_above : (place : ℕ) (runs : List SortedRun) (run : Option SortedRun) → is_above_first first runs ≡ true → are_falling runs ≡ true
+        → fits_between (first ∷ runs) (suc place) (suc end) run ≡ true → is_above_first first (exchanged place end run runs) ≡ true
+    still_above zero runs None above falls fits = above_behind end first runs above falls
+    still_above zero runs (Some run) above falls fits = (and_parts (is_below_last run (first ∷ [])) (is_above_first run (drop end runs)) fits).0
+    still_above (suc place) [] None above falls fits = above_behind end first [] above falls
+    still_above (suc place) [] (Some run) above falls fits = (and_parts (is_below_last run (first ∷ [])) (is_above_first run (drop end [])) fits).0
+    still_above (suc place) (next ∷ runs) run above falls fits = above
+
+-- What is known to fall after an exchange falls.
+pub known_spliced : (runs : List SortedRun) (place count : ℕ) (run : Option SortedRun)
+    → ((are_falling runs && fits_between runs place (place + count) run) || are_falling (spliced place count run runs)) ≡ are_falling (spliced place count run runs)
+known_spliced runs place count run = by (are_falling runs) (fits_between runs place (place + count) run) refl refl
+  where
+    by : (a b : Bool) → are_falling runs ≡ a → fits_between runs place (place + count) run ≡ b
+        → ((a && b) || are_falling (spliced place count run runs)) ≡ are_falling (spliced place count run runs)
+    by true true falls fits = sym (falling_exchanged runs place (place + count) run (omega arith) falls fits)
+    by true false falls fits = refl
+    by false b falls fits = refl
+
+-- ---- the last run
+
+pub below_last : (run last : SortedRun) (runs : List SortedRun) → Some last ≡ slice_get runs (length runs - 1) → nat_lt run.id last.id ≡ is_below_last run runs
+below_last run last [] is = absurd (cc is)
+below_last run last (first ∷ []) is = let same : last ≡ first = cc is in rw same refl
+below_last run last (first ∷ next ∷ runs) is =
+    let behind : length (first ∷ next ∷ runs) - 1 ≡ suc (length (next ∷ runs) - 1) = omega arith in
+    let there : Some last ≡ slice_get (next ∷ runs) (length (next ∷ runs) - 1) = rw behind at is in
+    below_last run last (next ∷ runs) there
+
+pub below_none : (run : SortedRun) (runs : List SortedRun) → None ≡ slice_get runs (length runs - 1) → true ≡ is_below_last run runs
+below_none run [] is = refl
+below_none run (first ∷ []) is = absurd (cc is)
+below_none run (first ∷ next ∷ runs) is =
+    let behind : length (first ∷ next ∷ runs) - 1 ≡ suc (length (next ∷ runs) - 1) = omega arith in
+    let there : None ≡ slice_get (next ∷ runs) (length (next ∷ runs) - 1) = rw behind at is in
+    below_none run (next ∷ runs) there

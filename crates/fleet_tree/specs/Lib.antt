@@ -4,5 +4,6 @@ pub mod Views
 pub mod Sizes
 pub mod Falling
 pub mod Trees
+pub mod Changes
 pub mod Manifests
 pub mod Laws

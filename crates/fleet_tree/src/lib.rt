@@ -23,6 +23,6 @@ pub use manifest::{Manifest, ManifestCore, VersionedManifest};
 pub use run::SortedRun;
 pub use run_list::RunList;
 pub use tracker::{Tracked, least_seq};
-pub use tree::{LsmTreeState, merge_from_writer};
+pub use tree::{LsmTreeState, TreeChange, merge_from_writer};
 pub use trees::{Trees, TreesWithPrefix};
 pub use view::SsTableView;

@@ -1,10 +1,12 @@
 //! Lists whose copies share their items.
 
-ghost use Rattle.std.specs.Prelude.{◌≡◌, ◌↔◌, ◌≤◌, ◌<◌, ◌++◌, [], ◌∷◌, drop, length, slice_get, slice_set, take, IsTrue, OnOk, OnErr, IfOk, IsOkUnless};
+ghost use Rattle.std.specs.Prelude.{◌≡◌, ◌↔◌, ◌≤◌, ◌<◌, ◌+◌, ◌++◌, [], ◌∷◌, drop, length, slice_get, slice_set, take, IsTrue, OnOk, OnErr, IfOk, IfSome, IsOkUnless};
 ghost use Rattle.std.specs.Option.{option_copied};
 ghost use Rattle.std.specs.Cmp.Lexicographic.{pointwise, lists_per, lists_equiv};
+ghost use Rattle.fleet_tree.specs.Changes.{changed_segment};
+ghost use Rattle.fleet_tree.specs.Lists.{spliced};
 
-use crate::{BlockMeta, LsmTreeState, SsTableHandle, SsTableView, Tracked};
+use crate::{BlockMeta, LsmTreeState, SsTableHandle, SsTableView, Tracked, TreeChange};
 use bytes::Bytes;
 use fleet_rows::{Copies, ListOf, SlateDBError};
 use std::alloc::{AllocError, Global};
@@ -149,6 +151,119 @@ impl<T: Copies + Drop> SharedList<T> {
                 Ok(())
             }
         }
+    }
+
+    /// Takes out the `count` items from a place on, counted from 0, and puts an item there if one is
+    /// given. What is taken out is dropped. If out of memory, the given item is dropped instead.
+    pub fn splice(
+        &mut self,
+        place: usize,
+        count: usize,
+        item: Option<T>,
+    ) -> Result<(), SlateDBError>
+        requires { place + count ≤ length self.old }
+        ensures ok { OnOk result (self.new ≡ spliced place count item self.old) }
+        ensures err { OnErr result (self.new ≡ self.old) }
+        ensures memory { IsOkUnless result SlateDBError.Memory }
+    {
+        match &mut self.items {
+            Some(items) => splice_list(Arc::make_mut(items)?, place, count, item),
+            None => {
+                if let Some(item) = item {
+                    self.items = Some(Arc::new(self.alloc, one(self.alloc, item)?)?);
+                }
+                Ok(())
+            }
+        }
+    }
+}
+
+impl SegmentList {
+    /// Changes the tree of the segment at this place, counted from 0. If no other list shares the
+    /// segments, none of them is copied. If out of memory, nothing changes.
+    pub fn change_tree(&mut self, place: u64, change: TreeChange) -> Result<(), SlateDBError>
+        requires within { place < length self.old }
+        requires runs { IfSome (slice_get self.old place)
+            (λ s. change.place + change.count ≤ length s.1.compacted) }
+        ensures ok { OnOk result (IfSome (slice_get self.old place)
+            (λ s. self.new ≡ slice_set self.old place (changed_segment change s))) }
+        ensures err { OnErr result (self.new ≡ self.old) }
+        ensures memory { IsOkUnless result SlateDBError.Memory }
+    {
+        match &mut self.items {
+            Some(items) => change_listed(Arc::make_mut(items)?, place as usize, change),
+            None => unreachable!(),
+        }
+    }
+}
+
+// Changes the tree of the segment at this place.
+fn change_listed(
+    list: &mut ListOf<(Bytes, LsmTreeState)>,
+    place: usize,
+    change: TreeChange,
+) -> Result<(), SlateDBError>
+    requires within { place < length list.old }
+    requires runs { IfSome (slice_get list.old place)
+        (λ s. change.place + change.count ≤ length s.1.compacted) }
+    ensures ok { OnOk result (IfSome (slice_get list.old place)
+        (λ s. list.new ≡ slice_set list.old place (changed_segment change s))) }
+    ensures err { OnErr result (list.new ≡ list.old) }
+    ensures memory { IsOkUnless result SlateDBError.Memory }
+{
+    let mut segments = list.take().into_vec();
+    let done = segments[place].1.apply(change);
+    *list = ListOf::from_vec(segments);
+    done
+}
+
+// Takes out the `count` items from a place on, and puts an item there if one is given.
+fn splice_list<T: Drop>(
+    list: &mut ListOf<T>,
+    place: usize,
+    count: usize,
+    item: Option<T>,
+) -> Result<(), SlateDBError>
+    requires { place + count ≤ length list.old }
+    ensures ok { OnOk result (list.new ≡ spliced place count item list.old) }
+    ensures err { OnErr result (list.new ≡ list.old) }
+    ensures memory { IsOkUnless result SlateDBError.Memory }
+{
+    let mut items = list.take().into_vec();
+    let done = splice_items(&mut items, place, count, item);
+    *list = ListOf::from_vec(items);
+    Ok(done?)
+}
+
+fn splice_items<T: Drop>(
+    items: &mut Vec<T>,
+    place: usize,
+    count: usize,
+    item: Option<T>,
+) -> Result<(), AllocError>
+    requires { place + count ≤ length items.old.items }
+    ensures ok { OnOk result (items.new.items ≡ spliced place count item items.old.items) }
+    ensures err { OnErr result (items.new.items ≡ items.old.items) }
+{
+    let Some(item) = item else {
+        remove_items(items, place, count);
+        return Ok(());
+    };
+    if count == 0 {
+        return Ok(items.insert(place, item)?);
+    }
+    items[place] = item;
+    remove_items(items, place + 1, count - 1);
+    Ok(())
+}
+
+// Takes out the `count` items from a place on.
+fn remove_items<T: Drop>(items: &mut Vec<T>, place: usize, count: usize)
+    requires { place + count ≤ length items.old.items }
+    ensures { items.new.items ≡ take place items.old.items ++ drop (place + count) items.old.items }
+{
+    'taken: for _ in 0..count {
+        drop(items.remove(place));
     }
 }
 

@@ -1,10 +1,11 @@
 //! The runs of a tree.
 
-ghost use Rattle.std.specs.Prelude.{◌≡◌, ◌↔◌, ◌==◌, ◌≤◌, ◌++◌, [], ◌∷◌, true, find, length, not, slice_get, take_while, IsTrue, OnOk, OnErr, IfOk, IsOkUnless};
+ghost use Rattle.std.specs.Prelude.{◌≡◌, ◌↔◌, ◌==◌, ◌≤◌, ◌+◌, ◌++◌, ◌&&◌, ◌||◌, [], ◌∷◌, true, find, length, not, slice_get, take_while, IsTrue, OnOk, OnErr, IfOk, IsOkUnless};
 ghost use Rattle.std.specs.List.{position_or_len};
 ghost use Rattle.std.specs.Option.{option_copied};
 ghost use Rattle.std.specs.Cmp.Lexicographic.{pointwise, lists_per, lists_equiv};
-ghost use Rattle.fleet_tree.specs.Falling.{are_falling, is_above_first};
+ghost use Rattle.fleet_tree.specs.Falling.{are_falling, fits_between, is_above_first, is_below_last};
+ghost use Rattle.fleet_tree.specs.Lists.{spliced};
 ghost use Rattle.fleet_tree.specs.contracts.run.SortedRunEq.TheImpl.Laws as run_equiv;
 ghost use Rattle.fleet_tree.specs.contracts.run.SortedRunPartialEq.TheImpl.Laws as run_eq;
 
@@ -120,6 +121,35 @@ impl RunList {
         Ok(())
     }
 
+    /// Whether the ids fall, and still do after `splice` of this part and this run.
+    pub fn fits(&self, place: usize, count: usize, run: Option<&SortedRun>) -> bool
+        requires { place + count ≤ length self.now }
+        ensures { result ≡ (are_falling self.now
+            && fits_between self.now place (place + count) (option_copied run.entry)) }
+    {
+        self.falls && fits_between(self.runs.as_slice(), place, place + count, run)
+    }
+
+    /// Takes out the `count` runs from a place on, counted from 0, and puts a run there if one is
+    /// given. If no other list shares the runs, the later ones are moved, and none is copied. If out
+    /// of memory, the given run is dropped.
+    pub fn splice(
+        &mut self,
+        place: usize,
+        count: usize,
+        run: Option<SortedRun>,
+    ) -> Result<(), SlateDBError>
+        requires { place + count ≤ length self.old }
+        ensures ok { OnOk result (self.new ≡ spliced place count run self.old) }
+        ensures err { OnErr result (self.new ≡ self.old) }
+        ensures memory { IsOkUnless result SlateDBError.Memory }
+    {
+        let falls = self.fits(place, count, run.as_ref());
+        self.runs.splice(place, count, run)?;
+        self.falls = fall_still(falls, self.runs.as_slice());
+        Ok(())
+    }
+
     /// A copy, which shares the runs.
     pub fn clone(&self) -> Result<RunList, SlateDBError>
         ensures copy { IfOk result (λ copy. copy ≡ self.now) }
@@ -161,6 +191,35 @@ fn is_above_first(run: &SortedRun, runs: &[SortedRun]) -> bool
 {
     match runs.first() {
         Some(next) => next.id < run.id,
+        None => true,
+    }
+}
+
+// Whether the ids of the runs fall, if that is not known yet.
+fn fall_still(is_known: bool, runs: &[SortedRun]) -> bool
+    ensures { result ≡ (is_known || are_falling runs.now) }
+{
+    is_known || are_falling(runs)
+}
+
+// Whether a run, if one is given, is below the run before `start`, and above the one at `end`.
+fn fits_between(runs: &[SortedRun], start: usize, end: usize, run: Option<&SortedRun>) -> bool
+    requires start { start ≤ end }
+    requires end { end ≤ length runs.now }
+    ensures { result ≡ fits_between runs.now start end (option_copied run.entry) }
+{
+    match run {
+        Some(run) => is_below_last(run, &runs[..start]) && is_above_first(run, &runs[end..]),
+        None => true,
+    }
+}
+
+// Whether the last of these runs has a higher id than the given run, or there is none.
+fn is_below_last(run: &SortedRun, runs: &[SortedRun]) -> bool
+    ensures { result ≡ is_below_last run.now runs.now }
+{
+    match runs.last() {
+        Some(last) => run.id < last.id,
         None => true,
     }
 }

@@ -1,9 +1,10 @@
 //! The tree of a segment.
 
-ghost use Rattle.std.specs.Prelude.{◌≡◌, [], None, IfOk, IsOkUnless, OnErr, OnOk};
+ghost use Rattle.std.specs.Prelude.{◌≡◌, ◌+◌, ◌≤◌, [], None, length, IfOk, IsOkUnless, OnErr, OnOk};
+ghost use Rattle.fleet_tree.specs.Changes.{changed_tree};
 ghost use Rattle.fleet_tree.specs.Trees.{empty_tree, flushed_on, from_writer, newer_than};
 
-use crate::{FlushList, RunList, SsTableView};
+use crate::{FlushList, RunList, SortedRun, SsTableView};
 use fleet_rows::{Copies, SlateDBError, Ulid};
 use std::alloc::{AllocError, Global};
 
@@ -20,6 +21,21 @@ pub struct LsmTreeState {
     pub last_compacted_l0_sst_view_id: Option<Ulid>,
     /// The greatest sequence of the segment's flushes.
     pub last_seq: Option<u64>,
+}
+
+/// A change of a tree that exchanges a part of its runs, as the end of a job does.
+#[derive(Debug, Drop)]
+pub struct TreeChange {
+    /// The flushes afterwards.
+    pub l0: FlushList,
+    /// The watermark afterwards.
+    pub last_compacted_l0_sst_view_id: Option<Ulid>,
+    /// The place of the first run that is taken out, counted from 0.
+    pub place: usize,
+    /// How many runs are taken out from this place on.
+    pub count: usize,
+    /// The run that comes in their place, if one does.
+    pub run: Option<SortedRun>,
 }
 
 impl LsmTreeState {
@@ -44,6 +60,21 @@ impl LsmTreeState {
     {
         self.l0.push_front(view)?;
         self.last_seq = Some(last_seq);
+        Ok(())
+    }
+
+    /// Makes a change. If no other tree shares the runs, none of them is copied. If out of
+    /// memory, nothing changes.
+    pub fn apply(&mut self, change: TreeChange) -> Result<(), SlateDBError>
+        requires { change.place + change.count ≤ length self.old.compacted }
+        ensures ok { OnOk result (self.new ≡ changed_tree change self.old) }
+        ensures err { OnErr result (self.new ≡ self.old) }
+        ensures memory { IsOkUnless result SlateDBError.Memory }
+    {
+        self.compacted
+            .splice(change.place, change.count, change.run)?;
+        self.l0 = change.l0;
+        self.last_compacted_l0_sst_view_id = change.last_compacted_l0_sst_view_id;
         Ok(())
     }
 
