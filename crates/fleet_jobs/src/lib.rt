@@ -38,7 +38,7 @@ pub use release::Release;
 pub use rules::{
     destination_fits, held_nodes, is_lowest_or_above, nodes_at, reserves_nodes, sources_stand,
 };
-pub use run_stretches::is_run_stretch;
+pub use run_stretches::{are_in_front, is_run_stretch};
 pub use source_id::{SourceId, SourceList};
 pub use spec::{CompactionSpec, DrainSegmentSpec, SpecList, TieredCompactionSpec};
 pub use status::CompactionStatus;

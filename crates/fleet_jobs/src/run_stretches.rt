@@ -48,8 +48,8 @@ fn are_among(sources: &[SourceId], runs: &[SortedRun]) -> bool
     are_in_front(sources, rest)
 }
 
-// Whether the runs begin with the sources.
-fn are_in_front(sources: &[SourceId], runs: &[SortedRun]) -> bool
+/// Whether the runs begin with the sources, one after the other.
+pub fn are_in_front(sources: &[SourceId], runs: &[SortedRun]) -> bool
     ensures { result ≡ is_some
         (after_front (map name_of sources.now) (map (λ run. Run run.id) runs.now)) }
 {
