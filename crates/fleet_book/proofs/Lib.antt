@@ -3,6 +3,8 @@ pub mod Kept
 pub mod Merged
 pub mod Shown
 pub mod Trimmed
+pub mod Exchanged
+pub mod Lone
 pub mod Finishes
 pub mod Named
 pub mod ModelFinishes

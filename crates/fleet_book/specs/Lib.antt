@@ -5,5 +5,6 @@ pub mod Requests
 pub mod StateParts
 pub mod Shown
 pub mod States
+pub mod Exchanges
 pub mod Finishes
 pub mod Laws

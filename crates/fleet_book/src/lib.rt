@@ -2,6 +2,7 @@
 #![tactic(auto)]
 
 mod compactions;
+mod exchange;
 mod finish;
 mod job_map;
 mod laws;

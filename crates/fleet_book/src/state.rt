@@ -16,7 +16,7 @@ ghost use Rattle.fleet_book.specs.States.{is_taken, merged_jobs, merged_records,
 ghost use Rattle.fleet_jobs.specs.Status.{status_of};
 ghost use Rattle.fleet_book.specs.Versions.{with_jobs};
 
-use crate::finish::core_after;
+use crate::finish::finish_core;
 use crate::merging::merged_manifest;
 use crate::{Compactions, CompactorStateView, JobMap, VersionedCompactions};
 use fleet_jobs::{Compaction, CompactionSpec, CompactionStatus};
@@ -236,8 +236,7 @@ impl CompactorState {
         let Some(job) = self.compactions.compactions().get(&id) else {
             unreachable!()
         };
-        let core = core_after(alloc, job, output, self.manifest.core())?;
-        self.manifest.manifest.core = core;
+        finish_core(alloc, job, output, &mut self.manifest.manifest.core)?;
         self.compactions
             .set_status(&id, CompactionStatus::Completed);
         Ok(())

@@ -4,7 +4,8 @@ ghost use Rattle.std.specs.Prelude.{◌≡◌};
 ghost use Rattle.std.specs.Option.{option_copied};
 
 use crate::VersionedCompactions;
-use fleet_tree::VersionedManifest;
+use fleet_tree::{LsmTreeState, SegmentList, VersionedManifest};
+use std::alloc::Global;
 
 /// What a scheduler is shown: the manifest, and the jobs that are not over, if there are records.
 #[derive(Debug, Drop)]
@@ -18,6 +19,15 @@ impl CompactorStateView {
         ensures { result.now ≡ self.now.manifest }
     {
         &self.manifest
+    }
+
+    /// Lets go of the trees. A state that shares them can then change its own in place. The view
+    /// has no flush and no run until it is refreshed.
+    pub fn forget_trees(&mut self, alloc: Global)
+        ensures { self.new.compactions ≡ self.old.compactions }
+    {
+        self.manifest.manifest.core.tree = LsmTreeState::new(alloc);
+        self.manifest.manifest.core.segments = SegmentList::new(alloc);
     }
 
     pub fn compactions(&self) -> Option<&VersionedCompactions>
