@@ -1,7 +1,7 @@
 -- What the gates say on a view of a state.
-use Rattle.std.proofs.Common.{◌≡◌, refl, sym, ◌∙◌, ap, ℕ, List, ◌++◌, map, Option, Some}
+use Rattle.std.proofs.Common.{◌≡◌, sym, ◌∙◌, ap, ℕ, List, ◌++◌, map, Option, Some}
 use Rattle.std.specs.Prelude.{filter, flat_map, IfOk, Ok, Err, Result}
-use Rattle.fleet_model.specs.Jobs.{Job, JobSpec, Jobs}
+use Rattle.fleet_model.specs.Jobs.{Job, Jobs}
 use Rattle.fleet_model.specs.Work.Gates.{commit_gate, submit_gate}
 use Rattle.fleet_model.specs.Work.Scheduler.{Scheduler, View}
 use Rattle.fleet_rows.specs.declared.errors.SlateDBError.{SlateDBError}

@@ -119,6 +119,7 @@ impl Poll {
     {
         know_rising(self.state.compactions());
         let failed = failed_rule(alloc, scheduler, &self.state, view, job)?;
+        view.forget_trees(alloc);
         self.commit(alloc, job, failed)?;
         self.state.refresh(alloc, view, &job)?;
         Ok(())

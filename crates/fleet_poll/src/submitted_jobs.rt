@@ -106,6 +106,7 @@ impl Poll {
     {
         know_rising(self.state.compactions());
         let failed = failed_rule(alloc, scheduler, &self.state, view, held, job)?;
+        view.forget_trees(alloc);
         self.open(alloc, options, job, failed)?;
         self.state.refresh(alloc, view, &job)?;
         Ok(())

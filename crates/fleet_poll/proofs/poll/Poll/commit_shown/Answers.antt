@@ -1,4 +1,5 @@
-use Rattle.std.proofs.Common.{subst}
+use Rattle.std.proofs.Common.{subst, sym}
+use Rattle.fleet_book.specs.Shown.{ShowedRecords}
 use Rattle.fleet_book.specs.Records.{AreRising, record_with}
 use Rattle.fleet_book.specs.States.{own_jobs}
 use Rattle.fleet_poll.proofs.Committed.{committed_in, floor_is, may_join_in, said_of}
@@ -29,7 +30,8 @@ commit-requires-clause-stand g c = λ none job e.
 pub refresh-requires : goal.refresh-requires
 refresh-requires g c =
     let rising = subst (λ v. AreRising v.compactions.jobs) c.compactions.ensures c.know_rising.ensures in
-    showed_before c.args.job c.args.view.now c.args.self.now.state c.commit.new.self.state rising c.requires.shown c.in_ok-commit.ensures.others
+    subst (λ shown. ShowedRecords c.args.job shown c.commit.new.self.state.compactions) (sym c.forget_trees.ensures)
+    (showed_before c.args.job c.args.view.now c.args.self.now.state c.commit.new.self.state rising c.requires.shown c.in_ok-commit.ensures.others)
 
 pub returns-clause-poll : goal.returns-clause-poll
 returns-clause-poll g c = λ flushes input sees.

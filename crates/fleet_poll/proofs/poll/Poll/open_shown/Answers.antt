@@ -1,6 +1,7 @@
-use Rattle.std.proofs.Common.{[], subst}
+use Rattle.std.proofs.Common.{[], subst, sym}
 use Rattle.fleet_model.specs.Work.Polls.{lost_to_scheduler}
 use Rattle.fleet_jobs.specs.Jobs.{jobs_of}
+use Rattle.fleet_book.specs.Shown.{ShowedRecords}
 use Rattle.fleet_book.specs.Records.{AreRising, record_with}
 use Rattle.fleet_book.specs.States.{own_jobs}
 use Rattle.fleet_poll.proofs.Answered.{opened_in, stand_in}
@@ -16,7 +17,8 @@ open-requires-clause-stand g c =
 pub refresh-requires : goal.refresh-requires
 refresh-requires g c =
     let rising = subst (λ v. AreRising v.compactions.jobs) c.compactions.ensures c.know_rising.ensures in
-    showed_before c.args.job c.args.view.now c.args.self.now.state c.open.new.self.state rising c.requires.shown c.in_ok-open.ensures.decision.others
+    subst (λ shown. ShowedRecords c.args.job shown c.open.new.self.state.compactions) (sym c.forget_trees.ensures)
+    (showed_before c.args.job c.args.view.now c.args.self.now.state c.open.new.self.state rising c.requires.shown c.in_ok-open.ensures.decision.others)
 
 pub returns-clause-poll : goal.returns-clause-poll
 returns-clause-poll g c = λ flushes input rise same.
