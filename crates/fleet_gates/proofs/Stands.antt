@@ -92,6 +92,12 @@ no_flush sources (run ∷ runs) e = by (after_front sources (names_of_runs (run 
     by None front f rest = rest f
     by (Some older) front f rest = front_no_flush sources (run ∷ runs) (ap is_some front)
 
+-- Sources that are among the runs of a tree one after the other are among its nodes.
+pub runs_stand : (sources names front : List NodeName) (runs : List SortedRun) → names ≡ front ++ names_of_runs runs → is_some (older_nodes sources (names_of_runs runs)) ≡ true
+    → list_all (names_contain names) sources ≡ true
+runs_stand sources names front runs are stands =
+    stretch_has sources names (ap (λ ns. is_some (older_nodes sources ns)) are ∙ stretch_behind sources front (names_of_runs runs) stands)
+
 reaches : (sources : List NodeName) (found : Option (List NodeName)) → is_some found ≡ true → list_any is_l0 sources ≡ false → reaches_oldest sources found ≡ true
 reaches sources None e f = absurd (cc e)
 reaches sources (Some older) e f = ap (λ b. not b || begins_with_run older) f
@@ -114,5 +120,5 @@ join_passes drain sources names front runs older are e = by drain (is_some (olde
     by false true is f =
         let there = ap (λ ns. is_some (older_nodes sources ns)) are ∙ stretch_behind sources front (names_of_runs runs) is in
         all_hold false (list_all (names_contain names) sources) (reaches_oldest sources (older_nodes sources names)) older refl
-        (stretch_has sources names there)
+        (runs_stand sources names front runs are is)
         (reaches sources (older_nodes sources names) there (no_flush sources runs is))

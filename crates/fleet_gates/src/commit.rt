@@ -1,6 +1,6 @@
 //! The gate for commits.
 
-ghost use Rattle.std.specs.Prelude.{◌≡◌, map, IfOk, IsOkUnless};
+ghost use Rattle.std.specs.Prelude.{◌≡◌, map, true, IfOk, IsOkUnless, IsTrue};
 ghost use Rattle.std.specs.List.{list_all};
 ghost use Rattle.fleet_model.specs.Work.Gates.{commit_gate};
 ghost use Rattle.fleet_model.specs.Jobs.{ids_eq};
@@ -16,7 +16,7 @@ ghost use Rattle.fleet_gates.specs.Shown.{accepted_on, shown_trees};
 use crate::places::has_all;
 use crate::{Rule, scheduler_rule, source_tables};
 use fleet_book::CompactorStateView;
-use fleet_jobs::{Compaction, CompactionSpec, nodes_at};
+use fleet_jobs::{Compaction, CompactionSpec, is_run_stretch, nodes_at};
 use fleet_rows::SlateDBError;
 use fleet_sched::CompactionScheduler;
 use fleet_tree::ManifestCore;
@@ -62,7 +62,8 @@ pub fn commit_rules(
     Ok(None)
 }
 
-// Whether every source is in the tree of the job's segment.
+// Whether every source is in the tree of the job's segment. Most jobs join runs that are one after
+// the other. No list of the nodes is made for these.
 fn has_sources(
     alloc: Global,
     core: &ManifestCore,
@@ -72,8 +73,23 @@ fn has_sources(
         (names_contain (names (tree_at (segment_of spec.now) (trees_of flushes core.now))))
         (map name_of (sources_of spec.now))) }
 {
+    if are_stretch_of_runs(core, spec) {
+        return Ok(true);
+    }
     let nodes = nodes_at(alloc, spec.segment().as_slice(), core)?;
     has_all(alloc, &nodes, spec.sources())
+}
+
+// Whether the sources are runs of the tree of the job's segment, one after the other.
+fn are_stretch_of_runs(core: &ManifestCore, spec: &CompactionSpec) -> bool
+    ensures { (flushes : RunFlushes) → IsTrue result → list_all
+        (names_contain (names (tree_at (segment_of spec.now) (trees_of flushes core.now))))
+        (map name_of (sources_of spec.now)) ≡ true }
+{
+    match core.tree_for_segment(spec.segment().as_slice()) {
+        Some(tree) => is_run_stretch(spec.sources(), &tree.compacted),
+        None => false,
+    }
 }
 
 // Whether the sources have the tables that they had when the job was opened.

@@ -7,6 +7,9 @@ use Rattle.fleet_jobs.specs.Specs.{segment_of, sources_of}
 use Rattle.fleet_jobs.proofs.ModelPlaces.{nodes_are_the_models}
 use Rattle.fleet_gates.proofs.commit.has_sources.Goals as goal
 
+pub returns-then-are_stretch_of_runs : goal.returns-then-are_stretch_of_runs
+returns-then-are_stretch_of_runs c = λ flushes. sym (c.are_stretch_of_runs.ensures flushes c.if-are_stretch_of_runs.true)
+
 pub returns : goal.returns
 returns c = λ flushes.
     let core = c.args.core.now in
