@@ -14,6 +14,23 @@ use crate::put::{put_row, put_u16, put_u64};
 use fleet_rows::{RowEntry, SlateDBError};
 use std::alloc::Global;
 
+// The number of bytes in front of the headers of blocks.
+const COUNT_BYTES: usize = 8;
+
+// The most bytes that a row takes beside those of its key and its value.
+const FIELDS_BYTES: usize = 33;
+
+// Enough bytes for the rows of all blocks, if so many can be had.
+fn room_for(rows: &[RowEntry]) -> usize {
+    let mut room = rows.len().saturating_mul(FIELDS_BYTES);
+    'rows: for row in rows {
+        room = room
+            .saturating_add(row.key.len())
+            .saturating_add(row.value.len());
+    }
+    room
+}
+
 /// The bytes of a table that has these rows, and where its blocks begin. The numbers of the rows
 /// fit their places. The only error is `Memory`.
 pub fn written_rows(
@@ -28,7 +45,7 @@ pub fn written_rows(
     ensures memory { IsOkUnless result SlateDBError.Memory }
 {
     let mut headers = Vec::new(alloc);
-    let mut written = Vec::new(alloc);
+    let mut written = Vec::with_capacity(alloc, room_for(rows))?;
     let mut places = Vec::new(alloc);
     let mut row = 0;
     let mut rest = rows;
@@ -40,7 +57,11 @@ pub fn written_rows(
         row += block.len();
         rest = later;
     }
-    let mut out = Vec::new(alloc);
+    let room = headers
+        .len()
+        .saturating_add(written.len())
+        .saturating_add(COUNT_BYTES);
+    let mut out = Vec::with_capacity(alloc, room)?;
     put_u64(&mut out, places.len() as u64)?;
     out.extend_from_slice(headers.as_slice())?;
     out.extend_from_slice(written.as_slice())?;
