@@ -94,13 +94,7 @@ impl RowEntryIterator for TableIterator<'_> {
         let Some(rows) = &mut self.rows else {
             return Ok(None);
         };
-        match rows.next(alloc) {
-            Ok(row) => Ok(row),
-            Err(error) => {
-                self.failed = true;
-                Err(error)
-            }
-        }
+        rows.next(alloc, &mut self.failed)
     }
 
     fn seek(&mut self, _alloc: Global, next_key: &[u8]) -> Result<(), SlateDBError> {

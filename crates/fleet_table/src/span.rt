@@ -1,6 +1,6 @@
 //! Rows of a table that are read one after another.
 
-ghost use Rattle.std.specs.Prelude.{◌≡◌, ◌↔◌, ◌≤◌, [], length, IfOk, IsOkUnless, IsTrue, OnErr};
+ghost use Rattle.std.specs.Prelude.{◌≡◌, ◌↔◌, ◌≤◌, true, [], length, IfOk, IsOkUnless, IsTrue, OnErr, OnOk};
 ghost use Rattle.std.specs.List.{prefix_len};
 ghost use Rattle.row_model.specs.Ranges.{rows_in};
 ghost use Rattle.fleet_iter.specs.Iteration.{from_key};
@@ -77,19 +77,32 @@ impl Span<'_> {
         self.end <= self.cursor.row
     }
 
-    /// Takes the first row.
+    /// Takes the first row. If this fails, `failed` is set.
     #[inline]
-    pub(crate) fn next(&mut self, alloc: Global) -> Result<Option<RowEntry>, SlateDBError>
+    pub(crate) fn next(
+        &mut self,
+        alloc: Global,
+        failed: &mut bool,
+    ) -> Result<Option<RowEntry>, SlateDBError>
         ensures row { IfOk result (Takes self.old self.new) }
+        ensures fine { OnOk result (failed.new ≡ failed.old) }
         ensures err { OnErr result (self.new ≡ self.old) }
+        ensures failed { OnErr result (failed.new ≡ true) }
         ensures memory { IsOkUnless result SlateDBError.Memory }
     {
         if self.end <= self.cursor.row {
             return Ok(None);
         }
-        let (row, cursor) = self.table.packed_row(alloc, &mut self.keys, self.cursor)?;
-        self.cursor = cursor;
-        Ok(Some(row))
+        match self.table.packed_row(alloc, &mut self.keys, self.cursor) {
+            Ok((row, cursor)) => {
+                self.cursor = cursor;
+                Ok(Some(row))
+            }
+            Err(error) => {
+                *failed = true;
+                Err(error)
+            }
+        }
     }
 
     /// Drops rows at the front while their keys are below this key. The index tells where to go on.

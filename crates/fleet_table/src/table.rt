@@ -108,7 +108,8 @@ impl TableData {
         let alloc = self.kept.alloc;
         let mut rows = Vec::new(alloc);
         let mut left = Span::all(&self.kept);
-        'left: while let Some(row) = left.next(alloc)? {
+        let mut failed = false;
+        'left: while let Some(row) = left.next(alloc, &mut failed)? {
             rows.push(row)?;
         }
         Ok(rows)
