@@ -93,16 +93,15 @@ impl Span<'_> {
         if self.end <= self.cursor.row {
             return Ok(None);
         }
-        match self.table.packed_row(alloc, &mut self.keys, self.cursor) {
-            Ok((row, cursor)) => {
-                self.cursor = cursor;
-                Ok(Some(row))
-            }
+        let (row, cursor) = match self.table.packed_row(alloc, &mut self.keys, self.cursor) {
+            Ok(found) => found,
             Err(error) => {
                 *failed = true;
-                Err(error)
+                return Err(error);
             }
-        }
+        };
+        self.cursor = cursor;
+        Ok(Some(row))
     }
 
     /// Drops rows at the front while their keys are below this key. The index tells where to go on.
