@@ -37,12 +37,13 @@ fn is_full(size: u64, filled: u64, row: &RowEntry) -> bool
 }
 
 // The rows of the next table. It ends with the row with which it exceeds `size` bytes, or when no
-// rows are left.
+// rows are left. Memory for `room` rows is taken at once.
 fn take_table<T: RowSource>(
     alloc: Global,
     source: &mut T,
     cursor: &Option<(Bytes, u64)>,
     size: u64,
+    room: usize,
 ) -> Result<Vec<RowEntry>, SlateDBError>
     requires sound { T.sound source.old }
     requires readable { IsReadable (T.state source.old) }
@@ -53,7 +54,7 @@ fn take_table<T: RowSource>(
     ensures err { IfErr result (RefusesAll (T.state source.old)) }
     ensures sound { T.sound source.new }
 {
-    let mut table = Vec::new(alloc);
+    let mut table = Vec::with_capacity(alloc, room)?;
     let mut filled = 0;
     'rows: while let Some(row) = next_left(alloc, source, cursor)? {
         let full = is_full(size, filled, &row);
@@ -75,12 +76,14 @@ fn tell_gate<G: RangeGate>(gate: &G, range: u32, tables: &RangeTables)
     gate.given(range, count);
 }
 
-// All tables of a range. Each table is reported to the gate.
+// All tables of a range. Each table is reported to the gate. Memory for `room` rows of the first
+// table is taken at once.
 fn take_tables<T: RowSource, G: RangeGate>(
     alloc: Global,
     source: &mut T,
     cursor: &Option<(Bytes, u64)>,
     size: u64,
+    room: usize,
     number: u32,
     gate: &G,
 ) -> Result<RangeTables, SlateDBError>
@@ -94,8 +97,10 @@ fn take_tables<T: RowSource, G: RangeGate>(
     ensures err { IfErr result (RefusesAll (T.state source.old)) }
 {
     let mut tables = RangeTables::new(alloc);
+    let mut room = room;
     'tables: loop {
-        let table = take_table(alloc, source, cursor, size)?;
+        let table = take_table(alloc, source, cursor, size, room)?;
+        room = 0;
         if table.is_empty() {
             return Ok(tables);
         }
@@ -131,6 +136,17 @@ fn is_lawful<B: BatchMerger>(_operator: &B)
     ensures { IsLawful (B.fold _operator.now) }
 {}
 
+// The number of the sources' rows.
+fn rows_of_all(sources: &[RunData]) -> u64 {
+    let mut rows: u64 = 0;
+    'sources: for source in sources {
+        'tables: for table in source.tables() {
+            rows = rows.saturating_add(table.rows());
+        }
+    }
+    rows
+}
+
 // All that is left of a range, cut into tables. `number` is the range's number, counted from 1.
 fn finish_range<O: MergeOperator, G: RangeGate>(
     alloc: Global,
@@ -150,18 +166,13 @@ fn finish_range<O: MergeOperator, G: RangeGate>(
     is_lawful(operator);
     are_bounded(sources);
     let mut left = open_range(alloc, job, sources, operator)?;
-    Ok(take_tables(alloc, &mut left, &job.cursor, size, number, gate)?)
+    let room = rows_of_all(sources).min(THREADS_FROM) as usize;
+    Ok(take_tables(alloc, &mut left, &job.cursor, size, room, number, gate)?)
 }
 
 // Whether the sources have too few rows for threads to pay.
 fn are_small(sources: &[RunData]) -> bool {
-    let mut rows: u64 = 0;
-    'sources: for source in sources {
-        'tables: for table in source.tables() {
-            rows = rows.saturating_add(table.rows());
-        }
-    }
-    rows < THREADS_FROM
+    rows_of_all(sources) < THREADS_FROM
 }
 
 // All that is left of each range, or its refusal. The ranges are made one after the other.
