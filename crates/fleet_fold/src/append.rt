@@ -65,7 +65,8 @@ impl MergeOperator for AppendOperator {
     }
 }
 
-// Joins the operands' bytes to the first bytes, in memory that is taken once.
+// Joins the operands' bytes to the first bytes, in memory that is taken once. A lone operand keeps its
+// own memory.
 fn joined_all(
     alloc: Global,
     _key: &Bytes,
@@ -74,6 +75,12 @@ fn joined_all(
 ) -> Result<Bytes, MergeOperatorError>
     ensures { AnswersBatch (fold_bytes append _key.now (Some first.now) operands.now) result }
 {
+    if first.is_empty()
+        && let [lone] = operands
+        && lone.len() < JOINED_LEN_LIMIT
+    {
+        return Ok(lone.clone()?);
+    }
     let mut bytes = Vec::with_capacity(alloc, room_for(first, operands))?;
     bytes.extend_from_slice(first)?;
     'operands: for operand in operands {
