@@ -1,4 +1,5 @@
 pub mod Cursors
+pub mod Pieces
 pub mod Spots
 pub mod InRange
 pub mod BlockCuts

@@ -1,5 +1,6 @@
 pub mod Order
 pub mod Cursors
+pub mod Pieces
 pub mod Table
 pub mod Iterator
 pub mod Run

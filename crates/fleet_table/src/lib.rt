@@ -5,6 +5,7 @@ mod cursor;
 mod cutting;
 mod iterator;
 mod order;
+mod piece;
 mod run_data;
 mod span;
 mod table;

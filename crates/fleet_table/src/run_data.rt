@@ -63,6 +63,8 @@ pub struct RunIterator<'a> {
     current: TableIterator<'a>,
     later: &'a [TableData],
     range: &'a BytesRange,
+    // Whether other threads may read other rows of the run at once.
+    shared: bool,
 }
 
 impl<'a> Model for RunIterator<'a> {
@@ -86,10 +88,21 @@ impl<'a> RunIterator<'a> {
         ensures { result
             ≡ record { left = rows_of_tables (range_of range.now) run.now; broken = false } }
     {
+        RunIterator::over(run, range, false)
+    }
+
+    /// What `new` gives. `shared` tells whether other threads may read other rows of the run at once.
+    /// Then the rows of a table that is not all in the range lie in copies of its blocks, so that no
+    /// thread slows down another.
+    pub fn over(run: &'a RunData, range: &'a BytesRange, shared: bool) -> RunIterator<'a>
+        ensures { result
+            ≡ record { left = rows_of_tables (range_of range.now) run.now; broken = false } }
+    {
         RunIterator {
             current: TableIterator::ended(),
             later: run.tables(),
             range,
+            shared,
         }
     }
 }
@@ -104,7 +117,7 @@ impl RowEntryIterator for RunIterator<'_> {
     }
 
     fn next(&mut self, alloc: Global) -> Result<Option<RowEntry>, SlateDBError> {
-        to_next_table(&mut self.current, &mut self.later, self.range);
+        to_next_table(&mut self.current, &mut self.later, self.range, self.shared);
         self.current.next(alloc)
     }
 
@@ -112,7 +125,13 @@ impl RowEntryIterator for RunIterator<'_> {
         if self.current.has_failed() {
             return Err(SlateDBError::IteratorFailed);
         }
-        seek_tables(&mut self.current, &mut self.later, self.range, next_key);
+        seek_tables(
+            &mut self.current,
+            &mut self.later,
+            self.range,
+            self.shared,
+            next_key,
+        );
         Ok(())
     }
 }
@@ -122,6 +141,7 @@ fn to_next_table<'a>(
     current: &mut TableIterator<'a>,
     later: &mut &'a [TableData],
     range: &BytesRange,
+    shared: bool,
 )
     ensures rows { current.new.left ++ rows_of_tables (range_of range.now) later.new.now
         ≡ current.old.left ++ rows_of_tables (range_of range.now) later.old.now }
@@ -131,7 +151,7 @@ fn to_next_table<'a>(
     'tables: while current.has_ended()
         && let [table, rest @ ..] = *later
     {
-        *current = table.iter(range);
+        *current = table.iter_in(range, shared);
         *later = rest;
     }
 }
@@ -141,6 +161,7 @@ fn seek_tables<'a>(
     current: &mut TableIterator<'a>,
     later: &mut &'a [TableData],
     range: &BytesRange,
+    shared: bool,
     key: &[u8],
 )
     requires { current.old.broken ≡ false }
@@ -152,7 +173,7 @@ fn seek_tables<'a>(
     'tables: while current.has_ended()
         && let [table, rest @ ..] = *later
     {
-        *current = table.iter(range);
+        *current = table.iter_in(range, shared);
         current.skip_to(key);
         *later = rest;
     }

@@ -9,6 +9,7 @@ ghost use Rattle.fleet_table.specs.Cursors.{IsCursor, Takes};
 ghost use Rattle.fleet_table.specs.Order.{is_before_range, is_not_after_range};
 
 use crate::cursor::{Cursor, Ties};
+use crate::piece::Piece;
 use crate::table_bytes::TableBytes;
 use bytes::BytesMut;
 use fleet_range::{ByteRangeBounds, BytesRange};
@@ -27,32 +28,46 @@ pub(crate) struct Span<'a> {
     end: usize,
     // Memory for keys of the next rows.
     keys: BytesMut,
+    // Where rows are read while they stand there.
+    piece: Piece,
+    // Whether the pieces have memory of their own.
+    copies: bool,
 }
 
 impl<'a> Model for Span<'a> {
     ghost use Rattle.std.specs.Prelude.{◌≤◌, List, length};
     ghost use Rattle.row_model.specs.Rows.{Row};
     ghost use Rattle.fleet_table.specs.Cursors.{rows_between, IsCursor};
+    ghost use Rattle.fleet_table.specs.Pieces.{IsPiece};
 
     ghost Value = { List Row };
 
     ghost view = { λ s. rows_between s.cursor.row s.end s.table.now };
 
-    ghost invariant = { λ s. (s.end ≤ length s.table.now) × IsCursor s.table.now s.cursor };
+    ghost invariant = { λ s. (s.end ≤ length s.table.now) × IsCursor s.table.now s.cursor
+        × IsPiece s.table.now s.piece };
 }
 
 impl<'a> Span<'a> {
-    /// The rows of a table whose keys lie in the range.
-    pub(crate) fn new(table: &'a TableBytes, range: &BytesRange) -> Span<'a>
+    /// The rows of a table whose keys lie in the range. `shared` tells whether other threads may
+    /// read other rows at once.
+    ///
+    /// A value that shares a table's memory counts there, in turn with the values of the other
+    /// threads, which takes far more time than a copy. So rows of a shared table are read in
+    /// copies, unless all its rows lie in the range.
+    pub(crate) fn new(table: &'a TableBytes, range: &BytesRange, shared: bool) -> Span<'a>
         ensures { result ≡ rows_in (range_of range.now) table.now }
     {
         table.know_table();
         let cursor = start_of(table, range);
+        let end = end_of(table, cursor, range);
         Span {
             table,
             cursor,
-            end: end_of(table, cursor, range),
+            end,
             keys: BytesMut::new(table.alloc),
+            piece: Piece::new(),
+            copies: shared && !is_whole(table, cursor, end),
         }
     }
 
@@ -66,6 +81,8 @@ impl<'a> Span<'a> {
             cursor: table.block_start(0),
             end: table.count(),
             keys: BytesMut::new(table.alloc),
+            piece: Piece::new(),
+            copies: false,
         }
     }
 }
@@ -93,7 +110,17 @@ impl Span<'_> {
         if self.end <= self.cursor.row {
             return Ok(None);
         }
-        let (row, cursor) = match self.table.packed_row(alloc, &mut self.keys, self.cursor) {
+        if let Err(error) = self
+            .piece
+            .reach(alloc, self.table, self.cursor, self.copies)
+        {
+            *failed = true;
+            return Err(error);
+        }
+        let found = self
+            .table
+            .packed_row(alloc, &mut self.keys, self.cursor, &self.piece);
+        let (row, cursor) = match found {
             Ok(found) => found,
             Err(error) => {
                 *failed = true;
@@ -140,4 +167,9 @@ fn end_of(table: &TableBytes, from: Cursor, range: &BytesRange) -> usize
         Bound::Excluded(end) => table.find_from(from, end, Ties::After).row,
         Bound::Unbounded => table.count(),
     }
+}
+
+// Whether the rows from the cursor on up to this many are all rows of the table.
+fn is_whole(table: &TableBytes, cursor: Cursor, end: usize) -> bool {
+    cursor.row == 0 && end == table.count()
 }

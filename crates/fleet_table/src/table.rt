@@ -119,7 +119,15 @@ impl TableData {
     pub fn iter(&self, range: &BytesRange) -> TableIterator<'_>
         ensures { result ≡ record { left = rows_in (range_of range.now) self.now; broken = false } }
     {
-        TableIterator::new(Span::new(&self.kept, range))
+        self.iter_in(range, false)
+    }
+
+    /// The rows whose keys lie in the range. `shared` tells whether other threads may read other
+    /// rows at once.
+    pub(crate) fn iter_in(&self, range: &BytesRange, shared: bool) -> TableIterator<'_>
+        ensures { result ≡ record { left = rows_in (range_of range.now) self.now; broken = false } }
+    {
+        TableIterator::new(Span::new(&self.kept, range, shared))
     }
 
     /// The blocks, in order. The first block begins with the first row.

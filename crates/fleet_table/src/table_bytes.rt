@@ -11,12 +11,14 @@ ghost use Rattle.fleet_block.specs.Places.{places_from};
 ghost use Rattle.fleet_model.specs.Handles.{describe};
 ghost use Rattle.fleet_rows.specs.Row.{row_of, rows_of};
 ghost use Rattle.fleet_table.specs.Cursors.{is_before_spot, key_after, rows_before, IsCursor, StandsAt};
+ghost use Rattle.fleet_table.specs.Pieces.{HasCursor, IsPiece};
 ghost use Rattle.fleet_tree.specs.Handles.{handle_of};
 ghost use Rattle.fleet_table.specs.Table.{AreEndKeys, IsTableRows};
 
 use crate::cursor::{Cursor, Ties, is_before_spot};
 use crate::cutting::cut_blocks;
 use crate::order::last_of;
+use crate::piece::Piece;
 use bytes::{Bytes, BytesMut};
 use fleet_block::{
     BlockPlace, bytes_are_decoded, compared_at, packed_row_at, row_at, written_rows,
@@ -106,6 +108,13 @@ impl TableBytes {
         let _count = self.count;
     }
 
+    /// The bytes of the table.
+    pub(crate) fn bytes(&self) -> &Bytes
+        ensures { result.now ≡ table_bytes self.now }
+    {
+        &self.bytes
+    }
+
     /// The number of rows.
     pub(crate) fn count(&self) -> usize
         ensures { result ≡ length self.now }
@@ -156,7 +165,7 @@ impl TableBytes {
     }
 
     /// The number of blocks.
-    fn block_count(&self) -> usize
+    pub(crate) fn block_count(&self) -> usize
         ensures { result ≡ length (blocks_of_rows 0 self.now) }
     {
         self.places.len()
@@ -175,6 +184,7 @@ impl TableBytes {
     /// The first row of a block.
     pub(crate) fn block_start(&self, block: usize) -> Cursor
         requires { block < length (blocks_of_rows 0 self.now) }
+        ensures block { result.block ≡ block }
         ensures row { result.row ≡ rows_before block self.now }
         ensures within { result.row < length self.now }
         ensures stands { IsCursor self.now result }
@@ -186,6 +196,19 @@ impl TableBytes {
             block,
             row: start.row,
             place: headers + start.place,
+        }
+    }
+
+    /// The place at which a block begins. After all blocks it is the end of the bytes.
+    pub(crate) fn block_place(&self, block: usize) -> usize
+        ensures within { result ≤ length (table_bytes self.now) }
+        ensures later { drop result (table_bytes self.now)
+            ≡ flat_map rows_bytes (drop block (blocks_of_rows 0 self.now)) }
+    {
+        if block < self.block_count() {
+            self.block_start(block).place
+        } else {
+            self.bytes.len()
         }
     }
 
@@ -270,28 +293,33 @@ impl TableBytes {
         Ok((row, self.next(cursor, place)))
     }
 
-    /// What `row` gives. The key may lie in memory that it shares with other keys.
+    /// What `row` gives, read in a piece of the table. The key may lie in memory that it shares with
+    /// other keys.
     #[inline]
     pub(crate) fn packed_row(
         &self,
         alloc: Global,
         keys: &mut BytesMut,
         cursor: Cursor,
+        piece: &Piece,
     ) -> Result<(RowEntry, Cursor), SlateDBError>
         requires row { cursor.row < length self.now }
         requires stands { IsCursor self.now cursor }
+        requires piece { IsPiece self.now piece.now }
+        requires reached { HasCursor piece.now cursor }
         ensures value { IfOk result
             (λ found. slice_get self.now cursor.row ≡ Some (row_of found.0)) }
         ensures row { IfOk result (λ found. found.1.row ≡ cursor.row + 1) }
         ensures stands { IfOk result (λ found. IsCursor self.now found.1) }
         ensures memory { IsOkUnless result SlateDBError.Memory }
     {
+        let _small = self.bytes.len();
         let first = self.key_before(cursor);
-        let Some((row, place)) = packed_row_at(alloc, keys, &self.bytes, cursor.place, first)?
-        else {
+        let place = cursor.place - piece.start;
+        let Some((row, place)) = packed_row_at(alloc, keys, &piece.bytes, place, first)? else {
             unreachable!()
         };
-        Ok((row, self.next(cursor, place)))
+        Ok((row, self.next(cursor, piece.start + place)))
     }
 
     // The last block whose first row is before a spot, or the first block. It is found by halves.

@@ -17,10 +17,10 @@ tables-preserved c =
     let range = range_of c.args.range.now in
     let all = c.args.current.now.left ++ rows_of_tables range c.args.later.now.now in
     let ended = c.has_ended.ensures.0 (subst IsTrue (sym c.tables-test.true) (search rules)) in
-    let taken = ap (λ t. t.left) c.skip_to-in-tables.ensures ∙ ap (λ t. from_key key t.left) c.iter.ensures in
+    let taken = ap (λ t. t.left) c.skip_to-in-tables.ensures ∙ ap (λ t. from_key key t.left) c.iter_in.ensures in
     let sought = sought_next key range c.tables.current.left c.skip_to-in-tables.new.self.left c.tables.later.now c.table-item.result c.table-item.result all
     (c.tables.invariant.0, c.tables.invariant.1) ended.0 c.in-len1-up.len_at_least c.table-item.is taken in
-    (sought.0, sought.1, ap (λ t. t.broken) c.skip_to-in-tables.ensures ∙ ap (λ t. t.broken) c.iter.ensures)
+    (sought.0, sought.1, ap (λ t. t.broken) c.skip_to-in-tables.ensures ∙ ap (λ t. t.broken) c.iter_in.ensures)
 
 pub returns-after-tables-clause-rows : goal.returns-after-tables-clause-rows
 returns-after-tables-clause-rows c =
