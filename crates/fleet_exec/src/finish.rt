@@ -37,13 +37,13 @@ fn is_full(size: u64, filled: u64, row: &RowEntry) -> bool
 }
 
 // The rows of the next table. It ends with the row with which it exceeds `size` bytes, or when no
-// rows are left. Memory for `room` rows is taken at once.
+// rows are left. Memory for `capacity` rows is taken at once.
 fn take_table<T: RowSource>(
     alloc: Global,
     source: &mut T,
     cursor: &Option<(Bytes, u64)>,
     size: u64,
-    room: usize,
+    capacity: usize,
 ) -> Result<Vec<RowEntry>, SlateDBError>
     requires sound { T.sound source.old }
     requires readable { IsReadable (T.state source.old) }
@@ -54,7 +54,7 @@ fn take_table<T: RowSource>(
     ensures err { IfErr result (RefusesAll (T.state source.old)) }
     ensures sound { T.sound source.new }
 {
-    let mut table = Vec::with_capacity(alloc, room)?;
+    let mut table = Vec::with_capacity(alloc, capacity)?;
     let mut filled = 0;
     'rows: while let Some(row) = next_left(alloc, source, cursor)? {
         let full = is_full(size, filled, &row);
@@ -76,14 +76,14 @@ fn tell_gate<G: RangeGate>(gate: &G, range: u32, tables: &RangeTables)
     gate.given(range, count);
 }
 
-// All tables of a range. Each table is reported to the gate. Memory for `room` rows of the first
+// All tables of a range. Each table is reported to the gate. Memory for `capacity` rows of the first
 // table is taken at once.
 fn take_tables<T: RowSource, G: RangeGate>(
     alloc: Global,
     source: &mut T,
     cursor: &Option<(Bytes, u64)>,
     size: u64,
-    room: usize,
+    capacity: usize,
     number: u32,
     gate: &G,
 ) -> Result<RangeTables, SlateDBError>
@@ -97,10 +97,10 @@ fn take_tables<T: RowSource, G: RangeGate>(
     ensures err { IfErr result (RefusesAll (T.state source.old)) }
 {
     let mut tables = RangeTables::new(alloc);
-    let mut room = room;
+    let mut capacity = capacity;
     'tables: loop {
-        let table = take_table(alloc, source, cursor, size, room)?;
-        room = 0;
+        let table = take_table(alloc, source, cursor, size, capacity)?;
+        capacity = 0;
         if table.is_empty() {
             return Ok(tables);
         }
@@ -148,6 +148,7 @@ fn rows_of_all(sources: &[RunData]) -> u64 {
 }
 
 // All that is left of a range, cut into tables. `number` is the range's number, counted from 1.
+// `shared` tells whether other threads may make other ranges at once.
 fn finish_range<O: MergeOperator, G: RangeGate>(
     alloc: Global,
     job: &RangeJob,
@@ -156,6 +157,7 @@ fn finish_range<O: MergeOperator, G: RangeGate>(
     size: u64,
     number: u32,
     gate: &G,
+    shared: bool,
 ) -> Result<RangeTables, SlateDBError>
     requires { AreSources sources.now }
     ensures ok { IfOk result (λ tables. IsFinished size
@@ -165,9 +167,9 @@ fn finish_range<O: MergeOperator, G: RangeGate>(
 {
     is_lawful(operator);
     are_bounded(sources);
-    let mut left = open_range(alloc, job, sources, operator)?;
-    let room = rows_of_all(sources).min(THREADS_FROM) as usize;
-    Ok(take_tables(alloc, &mut left, &job.cursor, size, room, number, gate)?)
+    let mut left = open_range(alloc, job, sources, operator, shared)?;
+    let capacity = rows_of_all(sources).min(THREADS_FROM) as usize;
+    Ok(take_tables(alloc, &mut left, &job.cursor, size, capacity, number, gate)?)
 }
 
 // Whether the sources have too few rows for threads to pay.
@@ -194,7 +196,7 @@ fn finish_in_turn<O: MergeOperator, G: RangeGate>(
     let mut made = Vec::with_capacity(alloc, jobs.len())?;
     'turns: for i in 0..jobs.len() {
         let number = i as u32 + 1;
-        let answer = finish_range(alloc, &jobs[i], sources, operator, size, number, gate);
+        let answer = finish_range(alloc, &jobs[i], sources, operator, size, number, gate, false);
         made.push(answer)?;
     }
     Ok(made)
@@ -218,11 +220,12 @@ fn finish_at_once<R: Threads + Sync, O: MergeOperator, G: RangeGate>(
         FinishesRange (O.merged (O.settings operator.now)) sources.now size
         (slice_index_or jobs.now i job) (slice_index_or made.items i d)) }
 {
+    let shared = 1 < jobs.len();
     let one = |i: usize| -> Result<RangeTables, SlateDBError>
         requires { (i < length jobs.now) × (length jobs.now < 2 ^ 32) × AreSources sources.now }
         ensures { (job : _) → FinishesRange (O.merged (O.settings operator.entry.now))
             sources.entry.now size (slice_index_or jobs.entry.now i job) result }
-    { finish_range(alloc, &jobs[i], sources, operator, size, i as u32 + 1, gate) };
+    { finish_range(alloc, &jobs[i], sources, operator, size, i as u32 + 1, gate, shared) };
     let made = map_indices(rt, alloc, jobs.len(), &one)?;
     Ok(made)
 }

@@ -27,6 +27,7 @@ fn range_iterators<'s>(
     alloc: Global,
     sources: &'s [RunData],
     range: &'s BytesRange,
+    shared: bool,
 ) -> Result<Vec<RunIterator<'s>>, SlateDBError>
     ensures rows { IfOk result
         (λ iterators. map state_of iterators.items
@@ -35,23 +36,25 @@ fn range_iterators<'s>(
 {
     let mut iterators = Vec::with_capacity(alloc, sources.len())?;
     'sources: for source in sources {
-        iterators.push(RunIterator::new(source, range))?;
+        iterators.push(RunIterator::over(source, range, shared))?;
     }
     Ok(iterators)
 }
 
-/// An initialised merge of the sources' rows in a range, without dedup.
+/// An initialised merge of the sources' rows in a range, without dedup. `shared` tells whether
+/// other threads may read other rows of the sources at once.
 pub(crate) fn merged_in<'s>(
     alloc: Global,
     sources: &'s [RunData],
     range: &'s BytesRange,
+    shared: bool,
 ) -> Result<MergeIterator<RunIterator<'s>>, SlateDBError>
     ensures rows { IfOk result (λ rows. merge.state_of state_of rows
         ≡ reading (merged_lists Ascending (ranged_sources (range_of range.now) sources.now))) }
     ensures sound { IfOk result (λ rows. merge.IsSound (λ _. ⊤) state_of rows) }
     ensures memory { IsOkUnless result SlateDBError.Memory }
 {
-    let iterators = range_iterators(alloc, sources, range)?;
+    let iterators = range_iterators(alloc, sources, range, shared)?;
     let mut rows = MergeIterator::new(alloc, iterators).with_dedup(false);
     rows.init(alloc)?;
     Ok(rows)
@@ -62,6 +65,7 @@ fn ready_merge<'s>(
     alloc: Global,
     sources: &'s [RunData],
     range: &'s BytesRange,
+    shared: bool,
 ) -> Result<MergeIterator<RunIterator<'s>>, SlateDBError>
     requires { AreSources sources.now }
     ensures rows { IfOk result (λ rows. merge.state_of state_of rows
@@ -70,7 +74,7 @@ fn ready_merge<'s>(
     ensures memory { IsOkUnless result SlateDBError.Memory }
 {
     merges_sort();
-    Ok(merged_in(alloc, sources, range)?)
+    Ok(merged_in(alloc, sources, range, shared)?)
 }
 
 /// A merge that gives the sources' rows in a job's range in order, from its cursor's key on.
@@ -78,6 +82,7 @@ pub(crate) fn merged_sources<'s>(
     alloc: Global,
     job: &'s RangeJob,
     sources: &'s [RunData],
+    shared: bool,
 ) -> Result<MergeIterator<RunIterator<'s>>, SlateDBError>
     requires { AreSources sources.now }
     ensures rows { IfOk result (λ rows. merge.state_of state_of rows
@@ -86,7 +91,7 @@ pub(crate) fn merged_sources<'s>(
     ensures memory { IsOkUnless result SlateDBError.Memory }
 {
     ordered_rows_rise();
-    let mut rows = ready_merge(alloc, sources, &job.range)?;
+    let mut rows = ready_merge(alloc, sources, &job.range, shared)?;
     match &job.cursor {
         Some((key, _)) => {
             rows.seek(alloc, key.as_slice())?;
@@ -97,12 +102,14 @@ pub(crate) fn merged_sources<'s>(
 }
 
 /// What a job makes of a range, from its cursor's key on. Rows of that key that are written already
-/// are not left out.
+/// are not left out. `shared` tells whether other threads may read other rows of the sources at
+/// once.
 pub(crate) fn open_range<'s, 'o, O: MergeOperator>(
     alloc: Global,
     job: &'s RangeJob,
     sources: &'s [RunData],
     operator: &'o O,
+    shared: bool,
 ) -> Result<JobIterator<'o, O, MergeIterator<RunIterator<'s>>>, SlateDBError>
     requires { AreSources sources.now }
     ensures job { IfOk result
@@ -115,6 +122,6 @@ pub(crate) fn open_range<'s, 'o, O: MergeOperator>(
         (merge.IsSound (λ _. ⊤) state_of) (merge.state_of state_of) rows) }
     ensures memory { IsOkUnless result SlateDBError.Memory }
 {
-    let rows = merged_sources(alloc, job, sources)?;
+    let rows = merged_sources(alloc, job, sources, shared)?;
     Ok(job_iterator(alloc, operator, rows, job.settings))
 }

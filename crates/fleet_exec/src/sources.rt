@@ -43,6 +43,6 @@ pub fn are_sources(alloc: Global, sources: &SourceSet) -> Result<bool, SlateDBEr
 {
     merges_sort();
     let all = BytesRange::unbounded();
-    let mut rows = merged_in(alloc, sources.as_slice(), &all)?;
+    let mut rows = merged_in(alloc, sources.as_slice(), &all, false)?;
     Ok(stand_in_order(alloc, &mut rows)?)
 }

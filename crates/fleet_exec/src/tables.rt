@@ -29,7 +29,7 @@ pub fn next_table<O: MergeOperator>(
     ensures refused { IfErr result
         (RefusesJobTable (O.merged (O.settings operator.now)) sources.now job.now rows) }
 {
-    let mut left = open_range(alloc, job, sources.as_slice(), operator)?;
+    let mut left = open_range(alloc, job, sources.as_slice(), operator, false)?;
     let table = take_rows(alloc, &mut left, &job.cursor, rows)?;
     if table.is_empty() {
         return Ok(None);
