@@ -17,9 +17,14 @@ use Rattle.fleet_exec.specs.Cut.{open_with, before_tables, TakesTable}
 use Rattle.fleet_exec.specs.Taking.{left_after, ReadsOn, Takes}
 
 -- If one row is taken, it is the first of the rows left.
-pub first_left : (cursor : Option Cursor) (old new : IteratorState) (o : Option RowEntry) (row : RowEntry) → Takes 1 cursor old (option_to_list o) new → o ≡ Some row
+first_left : (cursor : Option Cursor) (old new : IteratorState) (o : Option RowEntry) (row : RowEntry) → Takes 1 cursor old (option_to_list o) new → o ≡ Some row
     → left_after cursor old.rows ≡ row_of row ∷ left_after cursor new.rows
 first_left cursor old new o row takes is = takes.rows ∙ ap (λ (o : Option RowEntry). rows_of (option_to_list o) ++ left_after cursor new.rows) is
+
+-- The first of the rows left, if it is packed.
+pub packed_left : (cursor : Option Cursor) (old new : IteratorState) (o : Option RowEntry) (row packed : RowEntry) → Takes 1 cursor old (option_to_list o) new → o ≡ Some row → row_of packed ≡ row_of row
+    → left_after cursor old.rows ≡ row_of packed ∷ left_after cursor new.rows
+packed_left cursor old new o row packed takes is same = first_left cursor old new o row takes is ∙ ap (λ (r : Row). r ∷ left_after cursor new.rows) (sym same)
 
 -- Reading rows and then further rows is reading rows.
 pub reads_further : {a b c : IteratorState} → ReadsOn a b → ReadsOn b c → ReadsOn a c

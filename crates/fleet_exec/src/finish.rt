@@ -14,9 +14,10 @@ ghost use Rattle.fleet_exec.specs.Ranges.{AreSources, source_rows, made_of};
 ghost use Rattle.fleet_exec.specs.Taking.{left_after};
 
 use crate::open::open_range;
+use crate::pack::{Room, pack_row};
 use crate::take::next_left;
 use crate::{RangeGate, RangeJob, RangeTables, SourceSet};
-use bytes::Bytes;
+use bytes::{Bytes, BytesMut};
 use fleet_fold::{BatchMerger, MergeOperator};
 use fleet_iter::RowSource;
 use fleet_rows::{ListOf, RowEntry, SlateDBError};
@@ -37,13 +38,13 @@ fn is_full(size: u64, filled: u64, row: &RowEntry) -> bool
 }
 
 // The rows of the next table. It ends with the row with which it exceeds `size` bytes, or when no
-// rows are left. Memory for `capacity` rows is taken at once.
+// rows are left. The room is memory for its rows.
 fn take_table<T: RowSource>(
     alloc: Global,
     source: &mut T,
     cursor: &Option<(Bytes, u64)>,
     size: u64,
-    capacity: usize,
+    room: &mut Room,
 ) -> Result<Vec<RowEntry>, SlateDBError>
     requires sound { T.sound source.old }
     requires readable { IsReadable (T.state source.old) }
@@ -54,9 +55,12 @@ fn take_table<T: RowSource>(
     ensures err { IfErr result (RefusesAll (T.state source.old)) }
     ensures sound { T.sound source.new }
 {
-    let mut table = Vec::with_capacity(alloc, capacity)?;
+    let mut table = Vec::with_capacity(alloc, room.rows)?;
+    room.rows = 0;
     let mut filled = 0;
     'rows: while let Some(row) = next_left(alloc, source, cursor)? {
+        let mut row = row;
+        pack_row(alloc, &mut room.bytes, &mut row)?;
         let full = is_full(size, filled, &row);
         let bytes = row.estimated_size() as u64;
         table.push(row)?;
@@ -76,16 +80,15 @@ fn tell_gate<G: RangeGate>(gate: &G, range: u32, tables: &RangeTables)
     gate.given(range, count);
 }
 
-// All tables of a range. Each table is reported to the gate. Memory for `capacity` rows of the first
-// table is taken at once.
+// All tables of a range. Each table is reported to the gate.
 fn take_tables<T: RowSource, G: RangeGate>(
     alloc: Global,
     source: &mut T,
     cursor: &Option<(Bytes, u64)>,
     size: u64,
-    capacity: usize,
     number: u32,
     gate: &G,
+    room: &mut Room,
 ) -> Result<RangeTables, SlateDBError>
     requires sound { T.sound source.old }
     requires readable { IsReadable (T.state source.old) }
@@ -97,10 +100,8 @@ fn take_tables<T: RowSource, G: RangeGate>(
     ensures err { IfErr result (RefusesAll (T.state source.old)) }
 {
     let mut tables = RangeTables::new(alloc);
-    let mut capacity = capacity;
     'tables: loop {
-        let table = take_table(alloc, source, cursor, size, capacity)?;
-        capacity = 0;
+        let table = take_table(alloc, source, cursor, size, room)?;
         if table.is_empty() {
             return Ok(tables);
         }
@@ -147,6 +148,18 @@ fn rows_of_all(sources: &[RunData]) -> u64 {
     rows
 }
 
+// Room for the rows that a range gives. They are packed if they lie in copies of blocks: a row that
+// is not packed keeps its copy, with the rows in it that are dropped.
+fn room_for(alloc: Global, sources: &[RunData], shared: bool) -> Room {
+    let rows = rows_of_all(sources).min(THREADS_FROM) as usize;
+    let bytes = if shared {
+        Some(BytesMut::new(alloc))
+    } else {
+        None
+    };
+    Room { rows, bytes }
+}
+
 // All that is left of a range, cut into tables. `number` is the range's number, counted from 1.
 // `shared` tells whether other threads may make other ranges at once.
 fn finish_range<O: MergeOperator, G: RangeGate>(
@@ -168,8 +181,8 @@ fn finish_range<O: MergeOperator, G: RangeGate>(
     is_lawful(operator);
     are_bounded(sources);
     let mut left = open_range(alloc, job, sources, operator, shared)?;
-    let capacity = rows_of_all(sources).min(THREADS_FROM) as usize;
-    Ok(take_tables(alloc, &mut left, &job.cursor, size, capacity, number, gate)?)
+    let mut room = room_for(alloc, sources, shared);
+    Ok(take_tables(alloc, &mut left, &job.cursor, size, number, gate, &mut room)?)
 }
 
 // Whether the sources have too few rows for threads to pay.
@@ -196,7 +209,9 @@ fn finish_in_turn<O: MergeOperator, G: RangeGate>(
     let mut made = Vec::with_capacity(alloc, jobs.len())?;
     'turns: for i in 0..jobs.len() {
         let number = i as u32 + 1;
-        let answer = finish_range(alloc, &jobs[i], sources, operator, size, number, gate, false);
+        let answer = finish_range(
+            alloc, &jobs[i], sources, operator, size, number, gate, false,
+        );
         made.push(answer)?;
     }
     Ok(made)
@@ -225,7 +240,18 @@ fn finish_at_once<R: Threads + Sync, O: MergeOperator, G: RangeGate>(
         requires { (i < length jobs.now) × (length jobs.now < 2 ^ 32) × AreSources sources.now }
         ensures { (job : _) → FinishesRange (O.merged (O.settings operator.entry.now))
             sources.entry.now size (slice_index_or jobs.entry.now i job) result }
-    { finish_range(alloc, &jobs[i], sources, operator, size, i as u32 + 1, gate, shared) };
+    {
+        finish_range(
+            alloc,
+            &jobs[i],
+            sources,
+            operator,
+            size,
+            i as u32 + 1,
+            gate,
+            shared,
+        )
+    };
     let made = map_indices(rt, alloc, jobs.len(), &one)?;
     Ok(made)
 }

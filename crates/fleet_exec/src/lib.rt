@@ -9,6 +9,7 @@ mod finish;
 mod gate;
 pub mod laws;
 mod open;
+mod pack;
 mod range_job;
 mod sources;
 mod tables;
