@@ -1,7 +1,9 @@
 //! What a scheduler is shown.
 
-ghost use Rattle.std.specs.Prelude.{◌≡◌};
+ghost use Rattle.std.specs.Prelude.{◌≡◌, []};
 ghost use Rattle.std.specs.Option.{option_copied};
+ghost use Rattle.fleet_tree.specs.Trees.{empty_tree};
+ghost use Rattle.fleet_book.specs.Finishes.{with_core};
 
 use crate::VersionedCompactions;
 use fleet_tree::{LsmTreeState, SegmentList, VersionedManifest};
@@ -24,7 +26,10 @@ impl CompactorStateView {
     /// Lets go of the trees. A state that shares them can then change its own in place. The view
     /// has no flush and no run until it is refreshed.
     pub fn forget_trees(&mut self, alloc: Global)
-        ensures { self.new.compactions ≡ self.old.compactions }
+        ensures jobs { self.new.compactions ≡ self.old.compactions }
+        ensures trees { self.new.manifest ≡ with_core
+            (record self.old.manifest.manifest.core { tree = empty_tree; segments = [] })
+            self.old.manifest }
     {
         self.manifest.manifest.core.tree = LsmTreeState::new(alloc);
         self.manifest.manifest.core.segments = SegmentList::new(alloc);

@@ -30,7 +30,7 @@ commit-requires-clause-stand g c = λ none job e.
 pub refresh-requires : goal.refresh-requires
 refresh-requires g c =
     let rising = subst (λ v. AreRising v.compactions.jobs) c.compactions.ensures c.know_rising.ensures in
-    subst (λ shown. ShowedRecords c.args.job shown c.commit.new.self.state.compactions) (sym c.forget_trees.ensures)
+    subst (λ shown. ShowedRecords c.args.job shown c.commit.new.self.state.compactions) (sym c.forget_trees.ensures.jobs)
     (showed_before c.args.job c.args.view.now c.args.self.now.state c.commit.new.self.state rising c.requires.shown c.in_ok-commit.ensures.others)
 
 pub returns-clause-poll : goal.returns-clause-poll

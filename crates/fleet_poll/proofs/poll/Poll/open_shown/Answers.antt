@@ -17,7 +17,7 @@ open-requires-clause-stand g c =
 pub refresh-requires : goal.refresh-requires
 refresh-requires g c =
     let rising = subst (λ v. AreRising v.compactions.jobs) c.compactions.ensures c.know_rising.ensures in
-    subst (λ shown. ShowedRecords c.args.job shown c.open.new.self.state.compactions) (sym c.forget_trees.ensures)
+    subst (λ shown. ShowedRecords c.args.job shown c.open.new.self.state.compactions) (sym c.forget_trees.ensures.jobs)
     (showed_before c.args.job c.args.view.now c.args.self.now.state c.open.new.self.state rising c.requires.shown c.in_ok-open.ensures.decision.others)
 
 pub returns-clause-poll : goal.returns-clause-poll
