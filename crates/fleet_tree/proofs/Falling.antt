@@ -227,11 +227,3 @@ below_last run last (first ∷ next ∷ runs) is =
     let behind : length (first ∷ next ∷ runs) - 1 ≡ suc (length (next ∷ runs) - 1) = omega arith in
     let there : Some last ≡ slice_get (next ∷ runs) (length (next ∷ runs) - 1) = rw behind at is in
     below_last run last (next ∷ runs) there
-
-pub below_none : (run : SortedRun) (runs : List SortedRun) → None ≡ slice_get runs (length runs - 1) → true ≡ is_below_last run runs
-below_none run [] is = refl
-below_none run (first ∷ []) is = absurd (cc is)
-below_none run (first ∷ next ∷ runs) is =
-    let behind : length (first ∷ next ∷ runs) - 1 ≡ suc (length (next ∷ runs) - 1) = omega arith in
-    let there : None ≡ slice_get (next ∷ runs) (length (next ∷ runs) - 1) = rw behind at is in
-    below_none run (next ∷ runs) there
