@@ -28,6 +28,9 @@ use std::thread::{Threads, map_indices};
 // Sources with fewer rows in all cost less to read than the threads for their ranges.
 const THREADS_FROM: u64 = 1024;
 
+// The most rows of a range for which memory is taken at once.
+const ROWS_AT_ONCE: u64 = 1024;
+
 // Whether a row exceeds the size of a table that has `filled` bytes so far.
 fn is_full(size: u64, filled: u64, row: &RowEntry) -> bool
     requires in_bounds { IsInBounds (row_of row.now) }
@@ -151,7 +154,7 @@ fn rows_of_all(sources: &[RunData]) -> u64 {
 // Room for the rows that a range gives. They are packed if they lie in copies of blocks: a row that
 // is not packed keeps its copy, with the rows in it that are dropped.
 fn room_for(alloc: Global, sources: &[RunData], shared: bool) -> Room {
-    let rows = rows_of_all(sources).min(THREADS_FROM) as usize;
+    let rows = rows_of_all(sources).min(ROWS_AT_ONCE) as usize;
     let bytes = if shared {
         Some(BytesMut::new(alloc))
     } else {
