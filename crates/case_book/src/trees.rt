@@ -127,7 +127,7 @@ fn tell_tree(answer: &mut String, tree: &LsmTreeState) -> Result<(), AllocError>
         write!(answer, "l{number}")?;
         first = false;
     }
-    'runs: for run in tree.compacted.as_slice() {
+    'runs: for run in tree.compacted.iter() {
         separate(answer, first)?;
         let id = run.id;
         write!(answer, "r{id}")?;

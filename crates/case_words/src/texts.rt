@@ -5,9 +5,7 @@ use bytes::Bytes;
 use fleet_plan::Anchor;
 use fleet_range::{ByteRangeBounds, BytesRange, ComparableRange};
 use fleet_rows::{KeyValue, ListOf, RowEntry};
-use fleet_tree::{
-    BlockMeta, FlushList, LsmTreeState, SortedRun, SsTableHandle, SsTableView, Tracked,
-};
+use fleet_tree::{BlockMeta, Items, LsmTreeState, SortedRun, SsTableHandle, SsTableView, Tracked};
 use std::alloc::AllocError;
 use std::ops::RangeBounds;
 
@@ -136,18 +134,16 @@ impl Tell for SortedRun {
     }
 }
 
-// Appends flushes with commas between them, or `-` if there are none.
-fn tell_flushes(answer: &mut String, flushes: &FlushList) -> Result<(), AllocError> {
-    if flushes.is_empty() {
+// Appends items with commas between them, or `-` if there are none.
+fn tell_items<T: Tell + Drop>(answer: &mut String, items: Items<'_, T>) -> Result<(), AllocError> {
+    let mut rest = items;
+    let Some(first) = rest.next() else {
         return answer.push('-');
-    }
-    let mut first = true;
-    'flushes: for flush in flushes.iter() {
-        if !first {
-            answer.push(',')?;
-        }
-        flush.tell(answer)?;
-        first = false;
+    };
+    first.tell(answer)?;
+    'rest: for item in rest {
+        answer.push(',')?;
+        item.tell(answer)?;
     }
     Ok(())
 }
@@ -155,9 +151,9 @@ fn tell_flushes(answer: &mut String, flushes: &FlushList) -> Result<(), AllocErr
 // A tree is printed as its flushes, its runs, and the greatest sequence of its flushes.
 impl Tell for LsmTreeState {
     fn tell(&self, answer: &mut String) -> Result<(), AllocError> {
-        tell_flushes(answer, &self.l0)?;
+        tell_items(answer, self.l0.iter())?;
         answer.push('/')?;
-        tell_list(answer, self.compacted.as_slice(), ',')?;
+        tell_items(answer, self.compacted.iter())?;
         answer.push('@')?;
         match self.last_seq {
             Some(seq) => write!(answer, "{seq}"),

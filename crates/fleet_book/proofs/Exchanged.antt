@@ -1,13 +1,14 @@
 -- Runs that stand one after the other and are exchanged for the output: the other runs are those that stay.
 use Rattle.std.proofs.Common.{◌≡◌, refl, sym, ◌∙◌, ap, subst, ℕ, zero, suc, ◌<◌, ◌+◌, List, [], ◌∷◌, ◌++◌, length, take, drop, map, Bool, true, false, not, cond, arith}
-use Rattle.std.specs.Prelude.{◌==◌, ◌&&◌, ◌||◌, filter, find, is_some, Option, Some, None}
+use Rattle.std.specs.Prelude.{◌==◌, ◌&&◌, ◌||◌, filter, find, is_some, Option, Some, None, option_to_list}
 use Rattle.std.specs.List.{AllByRecursion, list_any, prefix_len}
 use Rattle.std.proofs.lemmas.Bool.{and_parts, eqb-true, ltb-true, ne_eqb, le-ltb}
+use Rattle.std.proofs.lemmas.List.Folds.{length-prefix_len}
 use Rattle.row_laws.proofs.Elements.{all_weaken}
 use Rattle.fleet_model.specs.Nodes.{NodeName, L0, Run, name_eq}
 use Rattle.fleet_model.specs.Sources.{after_front}
 use Rattle.fleet_tree.specs.Falling.{are_falling, fits_between, is_above_first, is_below_last}
-use Rattle.fleet_tree.specs.Lists.{or_none, spliced}
+use Rattle.fleet_tree.specs.Lists.{spliced}
 use Rattle.fleet_tree.specs.Views.{View}
 use Rattle.fleet_tree.specs.declared.run.SortedRun.{SortedRun}
 use Rattle.fleet_tree.specs.declared.tree.LsmTreeState.{LsmTreeState}
@@ -192,11 +193,11 @@ put_between (suc place) output (run ∷ runs) behind falls below above =
     let all = take place runs ++ behind in
     ap (λ rs. run ∷ rs) rest ∙ ap (λ b. cond b (output ∷ run ∷ all) (run ∷ put_run output all)) (sym (le-ltb run.id output.id (omega (arith, higher))))
 
-none_between : (front behind : List SortedRun) → front ++ or_none None ++ behind ≡ front ++ behind
+none_between : (front behind : List SortedRun) → front ++ option_to_list None ++ behind ≡ front ++ behind
 none_between [] behind = refl
 none_between (run ∷ front) behind = ap (λ rs. run ∷ rs) (none_between front behind)
 
-one_between : (front : List SortedRun) (output : SortedRun) (behind : List SortedRun) → front ++ or_none (Some output) ++ behind ≡ front ++ output ∷ behind
+one_between : (front : List SortedRun) (output : SortedRun) (behind : List SortedRun) → front ++ option_to_list (Some output) ++ behind ≡ front ++ output ∷ behind
 one_between [] output behind = refl
 one_between (run ∷ front) output behind = ap (λ rs. run ∷ rs) (one_between front output behind)
 
@@ -219,16 +220,16 @@ exchanged_runs whole named alike runs place (Some output) fits front =
 
 -- These name the same runs as all sources do.
 pub same_runs : (sources : List SourceId) (id : ℕ) → is_named sources (Run id) ≡ is_named (after_flushes sources) (Run id)
-same_runs [] id = refl
-same_runs (SstView view ∷ sources) id = same_runs sources id
-same_runs (OfRun run ∷ sources) id = refl
-
-pub behind_flushes : (sources : List SourceId) → drop (prefix_len is_flush sources) sources ≡ after_flushes sources
-behind_flushes [] = refl
-behind_flushes (SstView view ∷ sources) =
-    let next : 1 + prefix_len is_flush sources ≡ suc (prefix_len is_flush sources) = omega arith in
-    ap (λ n. drop n (SstView view ∷ sources)) next ∙ behind_flushes sources
-behind_flushes (OfRun run ∷ sources) = refl
+same_runs sources id =
+    walked sources
+    ∙ ap (λ n. is_named (drop n sources) (Run id)) (sym (length-prefix_len is_flush sources))
+  where
+    walked : (sources : List SourceId) → is_named sources (Run id) ≡ is_named (drop (prefix_len is_flush sources) sources) (Run id)
+    walked [] = refl
+    walked (SstView view ∷ sources) =
+        let next : suc (prefix_len is_flush sources) ≡ 1 + prefix_len is_flush sources = omega arith in
+        walked sources ∙ ap (λ n. is_named (drop n (SstView view ∷ sources)) (Run id)) next
+    walked (OfRun run ∷ sources) = refl
 
 -- ---- sources without flushes
 

@@ -1,5 +1,5 @@
 -- Where a job exchanges runs of its tree in place.
-use Rattle.std.specs.Prelude.{ℕ, zero, suc, Bool, true, false, not, ◌≡◌, bytes_eq, if◌then◌else◌, is_some, List, [], ◌∷◌}
+use Rattle.std.specs.Prelude.{ℕ, zero, suc, Bool, true, false, not, ◌≡◌, bytes_eq, drop, is_some, length, take_while, List, [], ◌∷◌}
 use Rattle.std.specs.List.{list_any}
 use Rattle.fleet_tree.specs.declared.tree.LsmTreeState.{LsmTreeState}
 use Rattle.fleet_jobs.specs.Sources.{view_id_of}
@@ -11,8 +11,7 @@ is_flush source = is_some (view_id_of source)
 
 -- The sources after the flushes that come first.
 abbrev pub after_flushes : List SourceId → List SourceId
-after_flushes [] = []
-after_flushes (source ∷ sources) = if is_flush source then after_flushes sources else source ∷ sources
+after_flushes sources = drop (length (take_while is_flush sources)) sources
 
 -- True if no segment has this prefix.
 abbrev pub is_absent : List ℕ → List (List ℕ × LsmTreeState) → Bool

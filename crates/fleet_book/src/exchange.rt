@@ -6,7 +6,6 @@ ghost use Rattle.fleet_tree.specs.Lists.{spliced};
 ghost use Rattle.fleet_book.specs.Exchanges.{after_flushes, is_flush};
 ghost use Rattle.fleet_book.specs.Finishes.{kept_runs, with_output};
 
-use crate::finish::runs_from;
 use fleet_jobs::{SourceId, are_in_front};
 use fleet_tree::{RunList, SortedRun};
 
@@ -32,9 +31,11 @@ pub(crate) fn exchanged_part(
 {
     let named = after_flushes(sources);
     let place = first_place(named, output, runs);
-    let rest = behind(runs.as_slice(), place);
     let count = named.len();
-    if count > rest.len() || !are_in_front(named, rest) || !runs.fits(place, count, output) {
+    if count as u64 > runs.len() - place as u64
+        || !are_in_front(named, runs.iter_from(place))
+        || !runs.fits(place, count, output)
+    {
         return None;
     }
     Some(Part { place, count })
@@ -90,7 +91,7 @@ fn output_place(output: Option<&SortedRun>, runs: &RunList) -> usize
     ensures within { result ≤ length runs.now }
 {
     match output {
-        Some(run) => runs_from(runs.as_slice(), run.id),
+        Some(run) => runs.place_for(run.id),
         None => 0,
     }
 }

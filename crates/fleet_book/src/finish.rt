@@ -15,7 +15,8 @@ use bytes::Bytes;
 use fleet_jobs::{Compaction, CompactionSpec, CompactionStatus, SourceId};
 use fleet_rows::{SlateDBError, Ulid};
 use fleet_tree::{
-    FlushList, LsmTreeState, ManifestCore, RunList, SegmentList, SortedRun, SsTableView, TreeChange,
+    FlushList, LsmTreeState, ManifestCore, RunList, Runs, SegmentList, SortedRun, SsTableView,
+    TreeChange,
 };
 use std::alloc::{AllocError, Global};
 
@@ -326,7 +327,7 @@ fn finished_tree(
 {
     let (l0, mark) = flushes_after(alloc, sources, tree)?;
     let named = Sources::new(alloc, sources)?;
-    let mut runs = kept_runs(alloc, &named, tree.compacted.as_slice())?;
+    let mut runs = kept_runs(alloc, &named, tree.compacted.iter())?;
     add_output(&mut runs, output)?;
     Ok(LsmTreeState {
         l0,
@@ -391,9 +392,9 @@ fn keep_view(
 fn kept_runs(
     alloc: Global,
     sources: &Sources<'_>,
-    runs: &[SortedRun],
+    runs: Runs<'_>,
 ) -> Result<Vec<SortedRun>, AllocError>
-    ensures { IfOk result (λ kept. kept.items ≡ kept_runs sources.now runs.now) }
+    ensures { IfOk result (λ kept. kept.items ≡ kept_runs sources.now runs.entry) }
 {
     let mut kept = Vec::new(alloc);
     'runs: for run in runs {
@@ -436,7 +437,7 @@ fn put_run(runs: &mut Vec<SortedRun>, run: SortedRun) -> Result<(), AllocError>
 }
 
 // The number of runs at the front whose ids are not below this one.
-pub(crate) fn runs_from(runs: &[SortedRun], id: u32) -> usize
+fn runs_from(runs: &[SortedRun], id: u32) -> usize
     ensures { result ≡ length (take_while (λ run. not (nat_lt run.id id)) runs.now) }
 {
     runs.iter().take_while(|run| run.id >= id).count()

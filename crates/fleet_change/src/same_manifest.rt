@@ -9,7 +9,7 @@ ghost use Rattle.fleet_tree.specs.Trees.{RunFlushes, trees_of};
 ghost use Rattle.fleet_change.specs.Same.{HasTreesOf, same_flush, same_manifest, same_nodes, same_run, same_table, same_tree};
 
 use bytes::Bytes;
-use fleet_tree::{FlushList, LsmTreeState, ManifestCore, SortedRun, SsTableView};
+use fleet_tree::{Items, LsmTreeState, ManifestCore, SortedRun, SsTableView};
 
 // What is compared by names and tables.
 trait Same {
@@ -44,26 +44,11 @@ impl Same for (Bytes, LsmTreeState) {
 }
 
 // There are as many things on both sides, and they are the same in their order.
-fn are_same<T: Same>(these: &[T], others: &[T]) -> bool
-    ensures { result ≡ pointwise T.same these.now others.now }
+fn are_same<T: Same + Drop>(these: Items<'_, T>, others: Items<'_, T>) -> bool
+    ensures { result ≡ pointwise T.same these.entry others.entry }
 {
-    if these.len() != others.len() {
-        return false;
-    }
-    'places: for place in 0..these.len() {
-        if !these[place].is_same(&others[place]) {
-            return false;
-        }
-    }
-    true
-}
-
-// There are as many flushes on both sides, and they are the same in their order.
-fn are_same_flushes(these: &FlushList, others: &FlushList) -> bool
-    ensures { result ≡ pointwise same_flush these.now others.now }
-{
-    let mut left = others.iter();
-    'these: for this in these.iter() {
+    let mut left = others;
+    'these: for this in these {
         match left.next() {
             Some(other) => {
                 if !this.is_same(other) {
@@ -96,8 +81,8 @@ fn have_same_tables(these: &[SsTableView], others: &[SsTableView]) -> bool
 fn have_same_nodes(tree: &LsmTreeState, other: &LsmTreeState) -> bool
     ensures { result ≡ same_nodes tree.now other.now }
 {
-    are_same_flushes(&tree.l0, &other.l0)
-        && are_same(tree.compacted.as_slice(), other.compacted.as_slice())
+    are_same(tree.l0.iter(), other.l0.iter())
+        && are_same(tree.compacted.iter(), other.compacted.iter())
 }
 
 // The manifests have the same nodes in the same order, tree by tree, and the same horizon.
@@ -105,7 +90,10 @@ fn are_alike(got: &ManifestCore, now: &ManifestCore) -> bool
     ensures { result ≡ same_manifest got.now now.now }
 {
     have_same_nodes(&got.tree, &now.tree)
-        && are_same(got.segments.as_slice(), now.segments.as_slice())
+        && are_same(
+            Items::of_slice(got.segments.as_slice()),
+            Items::of_slice(now.segments.as_slice()),
+        )
         && got.horizon == now.horizon
 }
 

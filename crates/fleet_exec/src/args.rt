@@ -4,7 +4,7 @@ ghost use Rattle.std.specs.Prelude.{◌≡◌, IfOk, IsOkUnless};
 
 use fleet_jobs::{CompactionContext, Release};
 use fleet_rows::{SlateDBError, Ulid};
-use fleet_tree::{RunList, ViewList};
+use fleet_tree::{SharedList, SortedRun, ViewList};
 
 /// The arguments with which a job is started.
 #[derive(Clone, Debug, Drop, PartialEq, Eq)]
@@ -17,7 +17,7 @@ pub struct StartCompactionJobArgs {
     /// The id of the run that the job writes.
     pub destination: u32,
     pub l0_sst_views: ViewList,
-    pub sorted_runs: RunList,
+    pub sorted_runs: SharedList<SortedRun>,
     /// The moment, in milliseconds, by which rows count as expired.
     pub compaction_clock_tick: i64,
     /// Whether the job writes the last run of its tree.

@@ -13,7 +13,7 @@ ghost use Rattle.fleet_jobs.specs.Sources.{name_of};
 
 use crate::{NodeSet, SourceId};
 use fleet_rows::Ulid;
-use fleet_tree::{FlushList, LsmTreeState, SortedRun};
+use fleet_tree::{FlushList, LsmTreeState, Runs};
 use std::alloc::{AllocError, Global};
 
 /// The nodes of a tree, newest first: its flushes, and then its runs.
@@ -22,7 +22,7 @@ pub fn tree_nodes(alloc: Global, tree: &LsmTreeState) -> Result<Vec<SourceId>, A
 {
     let mut nodes = Vec::new(alloc);
     add_flushes(&mut nodes, &tree.l0)?;
-    add_runs(&mut nodes, tree.compacted.as_slice())?;
+    add_runs(&mut nodes, tree.compacted.iter())?;
     Ok(nodes)
 }
 
@@ -36,9 +36,9 @@ fn add_flushes(nodes: &mut Vec<SourceId>, views: &FlushList) -> Result<(), Alloc
     Ok(())
 }
 
-fn add_runs(nodes: &mut Vec<SourceId>, runs: &[SortedRun]) -> Result<(), AllocError>
+fn add_runs(nodes: &mut Vec<SourceId>, runs: Runs<'_>) -> Result<(), AllocError>
     ensures { OnOk result (map name_of nodes.new.items
-        ≡ map name_of nodes.old.items ++ map (λ run. Run run.id) runs.now) }
+        ≡ map name_of nodes.old.items ++ map (λ run. Run run.id) runs.entry) }
 {
     'runs: for run in runs {
         nodes.push(SourceId::SortedRun(run.id))?;

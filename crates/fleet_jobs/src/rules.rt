@@ -136,7 +136,7 @@ fn is_above_segments(segments: &[(Bytes, LsmTreeState)], run: u32) -> bool
 fn is_above_tree(tree: &LsmTreeState, run: u32) -> bool
     ensures { result ≡ list_all (λ other. nat_lt other.id run) tree.now.compacted }
 {
-    tree.compacted.as_slice().iter().all(|other| other.id < run)
+    tree.compacted.are_below(run)
 }
 
 /// The nodes of the jobs that hold nodes: their destinations and their sources. A Scheduled,

@@ -6,7 +6,7 @@ ghost use Rattle.fleet_model.specs.Sources.{after_front, older_nodes};
 ghost use Rattle.fleet_jobs.specs.Sources.{name_of};
 
 use crate::{SourceId, is_same};
-use fleet_tree::{RunList, SortedRun};
+use fleet_tree::{RunList, Runs};
 
 /// Whether the sources are among the runs, one after the other.
 ///
@@ -20,45 +20,38 @@ pub fn is_run_stretch(sources: &[SourceId], runs: &RunList) -> bool
         return true;
     };
     match first.maybe_unwrap_sorted_run() {
-        Some(id) => are_among(sources, runs_from(runs.place_of(id), runs)),
+        Some(id) => are_among(sources, runs.iter_from(runs.place_of(id))),
         None => false,
     }
 }
 
-// The runs from this place on.
-fn runs_from(place: usize, runs: &RunList) -> &[SortedRun]
-    requires { place ≤ length runs.now }
-    ensures { result.now ≡ drop place runs.now }
-{
-    &runs.as_slice()[place..]
-}
-
 // Whether the sources are among the runs, one after the other. Each place is looked at in turn.
-fn are_among(sources: &[SourceId], runs: &[SortedRun]) -> bool
+fn are_among(sources: &[SourceId], runs: Runs<'_>) -> bool
     ensures { result ≡ is_some
-        (older_nodes (map name_of sources.now) (map (λ run. Run run.id) runs.now)) }
+        (older_nodes (map name_of sources.now) (map (λ run. Run run.id) runs.entry)) }
 {
     let mut rest = runs;
-    'places: while !rest.is_empty() {
-        if are_in_front(sources, rest) {
+    'places: loop {
+        if are_in_front(sources, rest.clone()) {
             return true;
         }
-        rest = &rest[1..];
+        if rest.next().is_none() {
+            return false;
+        }
     }
-    are_in_front(sources, rest)
 }
 
 /// Whether the runs begin with the sources, one after the other.
-pub fn are_in_front(sources: &[SourceId], runs: &[SortedRun]) -> bool
+pub fn are_in_front(sources: &[SourceId], runs: Runs<'_>) -> bool
     ensures { result ≡ is_some
-        (after_front (map name_of sources.now) (map (λ run. Run run.id) runs.now)) }
+        (after_front (map name_of sources.now) (map (λ run. Run run.id) runs.entry)) }
 {
     let mut rest = runs;
     'sources: for source in sources {
-        if rest.is_empty() || !is_same(source, SourceId::SortedRun(rest[0].id)) {
-            return false;
+        match rest.next() {
+            Some(run) if is_same(source, SourceId::SortedRun(run.id)) => {}
+            _ => return false,
         }
-        rest = &rest[1..];
     }
     true
 }

@@ -8,7 +8,7 @@ ghost use Rattle.fleet_jobs.specs.Specs.{segment_of};
 
 use crate::{Compaction, CompactionSpec, SourceId};
 use fleet_rows::{Copies, SlateDBError, Ulid};
-use fleet_tree::{LsmTreeState, ManifestCore, RunList, SortedRun, SsTableView, ViewList};
+use fleet_tree::{LsmTreeState, ManifestCore, SharedList, SortedRun, SsTableView, ViewList};
 use std::alloc::{AllocError, Global};
 
 impl Compaction {
@@ -31,11 +31,11 @@ impl Compaction {
         &self,
         alloc: Global,
         core: &ManifestCore,
-    ) -> Result<RunList, SlateDBError>
+    ) -> Result<SharedList<SortedRun>, SlateDBError>
         ensures runs { IfOk result (λ runs. runs ≡ taken_runs self.now.spec core.now) }
         ensures memory { IsOkUnless result SlateDBError.Memory }
     {
-        RunList::from_vec(alloc, runs_of(alloc, self.spec(), core)?)
+        SharedList::from_vec(alloc, runs_of(alloc, self.spec(), core)?)
     }
 }
 

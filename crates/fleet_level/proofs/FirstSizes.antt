@@ -49,11 +49,15 @@ one_item_more : {X : Type 0} (tables : X → List SsTableHandle) (id : ℕ) (xs 
 one_item_more tables id xs i x begun old new below is so step =
     first_more (flat_map tables) (record { joins = flat_map-append tables }) id xs i x begun old new below is so (step ∙ ap (λ l. option_or old (first_size id l)) (sym (append-nil (tables x))))
 
--- One run more.
-pub one_run_more : (id : ℕ) (runs : List SortedRun) (i : ℕ) (run : SortedRun) (begun old new : Option ℕ) → i < length runs → run ≡ get_or runs i run
-    → old ≡ option_or begun (first_size id (tables_of_runs (take i runs))) → new ≡ option_or old (first_size id (map (λ view. view.sst) run.views))
-    → new ≡ option_or begun (first_size id (tables_of_runs (take (i + 1) runs)))
-one_run_more = one_item_more (λ (run : SortedRun). map (λ (view : View). view.sst) run.views)
+-- One run less is left.
+pub one_run_less : (id : ℕ) (left : List SortedRun) (run : SortedRun) (rest : List SortedRun) (old new : Option ℕ) → left ≡ run ∷ rest
+    → new ≡ option_or old (first_size id (map (λ view. view.sst) run.views)) → option_or new (first_size id (tables_of_runs rest)) ≡ option_or old (first_size id (tables_of_runs left))
+one_run_less id left run rest old new is step =
+    let tables = map (λ (view : View). view.sst) run.views in
+    ap (λ o. option_or o (first_size id (tables_of_runs rest))) step
+    ∙ either old (first_size id tables) (first_size id (tables_of_runs rest))
+    ∙ ap (option_or old) (sym (first-append id tables (tables_of_runs rest)))
+    ∙ ap (λ l. option_or old (first_size id (tables_of_runs l))) (sym is)
 
 -- One tree more.
 pub one_tree_more : (id : ℕ) (trees : List (List ℕ × LsmTreeState)) (i : ℕ) (s : List ℕ × LsmTreeState) (begun old new : Option ℕ) → i < length trees → s ≡ get_or trees i s

@@ -21,7 +21,7 @@ use fleet_book::CompactorStateView;
 use fleet_jobs::{CompactionSpec, NodeSet, SourceId};
 use fleet_rows::Ulid;
 use fleet_sched::fresh_run_id;
-use fleet_tree::{LsmTreeState, ManifestCore, SortedRun};
+use fleet_tree::{LsmTreeState, ManifestCore, Runs, SortedRun};
 use std::alloc::{AllocError, Global};
 use std::collections::BTreeMap;
 use std::marker::Model;
@@ -125,14 +125,15 @@ impl Picking {
         sizes: &BTreeMap<Ulid, u64>,
         segment: &Bytes,
         flushes: Vec<SourceId>,
-        runs: &[SortedRun],
+        runs: Runs<'_>,
     ) -> Result<(), AllocError>
         ensures { (handles : List Handle) (run_flushes : ℕ → List ℕ) → HasSizes sizes.now handles
             → OnOk result (SamePicks self.new (model.pick_flushes_into options.now handles
-            segment.now (map name_of flushes.items) (map (run_node run_flushes) runs.now)
+            segment.now (map name_of flushes.items) (map (run_node run_flushes) runs.entry)
             self.old)) }
     {
-        let Some(run) = runs.first() else {
+        let mut rest = runs;
+        let Some(run) = rest.next() else {
             return self.add_fresh(segment, flushes);
         };
         if run_size(sizes, run) <= options.base {
@@ -162,7 +163,7 @@ impl Picking {
             return Ok(());
         }
         let sources = flush_sources(alloc, &tree.l0)?;
-        self.pick_flushes_into(options, sizes, segment, sources, tree.compacted.as_slice())
+        self.pick_flushes_into(options, sizes, segment, sources, tree.compacted.iter())
     }
 
     // Picks a run into the next older one if the run is above its limit and neither of them is
@@ -210,16 +211,22 @@ impl Picking {
         options: &LevelOptions,
         sizes: &BTreeMap<Ulid, u64>,
         segment: &Bytes,
-        runs: &[SortedRun],
+        runs: Runs<'_>,
     ) -> Result<(), AllocError>
         ensures { (handles : List Handle) (flushes : ℕ → List ℕ) → HasSizes sizes.now handles
             → OnOk result (SamePicks self.new (model.pick_runs options.now handles segment.now 0
-            (map (run_node flushes) runs.now) self.old)) }
+            (map (run_node flushes) runs.entry) self.old)) }
     {
+        let mut rest = runs;
+        let Some(first) = rest.next() else {
+            return Ok(());
+        };
+        let mut run = first;
         let mut limit = options.base;
-        'runs: for place in 0..runs.len().saturating_sub(1) {
-            self.pick_pair(alloc, sizes, segment, limit, &runs[place], &runs[place + 1])?;
+        'runs: for next in rest {
+            self.pick_pair(alloc, sizes, segment, limit, run, next)?;
             limit = limit.saturating_mul(options.ratio);
+            run = next;
         }
         Ok(())
     }
@@ -238,7 +245,7 @@ impl Picking {
             (segment_of flushes (segment.now, tree.now) ∷ []) self.old)) }
     {
         self.pick_flushes(alloc, options, sizes, segment, tree)?;
-        self.pick_runs(alloc, options, sizes, segment, tree.compacted.as_slice())
+        self.pick_runs(alloc, options, sizes, segment, tree.compacted.iter())
     }
 
     /// Looks at the trees in their order.

@@ -12,7 +12,7 @@ ghost use Rattle.fleet_sched.specs.Views.{tree_handles};
 ghost use Rattle.fleet_level.specs.Sizes.{HasSizes, first_size, size_in, tables_of_runs, tables_of_trees};
 
 use fleet_rows::Ulid;
-use fleet_tree::{LsmTreeState, ManifestCore, SortedRun, SsTableHandle, Views};
+use fleet_tree::{LsmTreeState, ManifestCore, Runs, SortedRun, SsTableHandle, Views};
 use std::alloc::{AllocError, Global};
 use std::collections::BTreeMap;
 
@@ -35,12 +35,12 @@ fn add_tree(sizes: &mut BTreeMap<Ulid, u64>, tree: &LsmTreeState) -> Result<(), 
         ≡ option_or (get nat_cmp sizes.old id) (first_size id (tree_handles tree.now))) }
 {
     add_views(sizes, tree.l0.iter())?;
-    add_runs(sizes, tree.compacted.as_slice())
+    add_runs(sizes, tree.compacted.iter())
 }
 
-fn add_runs(sizes: &mut BTreeMap<Ulid, u64>, runs: &[SortedRun]) -> Result<(), AllocError>
+fn add_runs(sizes: &mut BTreeMap<Ulid, u64>, runs: Runs<'_>) -> Result<(), AllocError>
     ensures { OnOk result ((id : ℕ) → get nat_cmp sizes.new id
-        ≡ option_or (get nat_cmp sizes.old id) (first_size id (tables_of_runs runs.now))) }
+        ≡ option_or (get nat_cmp sizes.old id) (first_size id (tables_of_runs runs.entry))) }
 {
     'runs: for run in runs {
         add_views(sizes, Views::of_slice(run.sst_views()))?;

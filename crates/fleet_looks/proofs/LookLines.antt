@@ -2,6 +2,7 @@
 use Rattle.std.proofs.Common.{◌≡◌, refl, sym, ◌∙◌, ap, subst, ℕ, List, [], ◌∷◌, ◌++◌, cond, Bool, true, false, Option, Some, None}
 use Rattle.std.specs.Prelude.{◌==◌, IsTrue, find, flat_map, map, option_map, bytes_eq, codes}
 use Rattle.std.specs.List.{AllByRecursion}
+use Rattle.std.proofs.lemmas.Cmp.{nat_eq_equiv}
 use Rattle.row_model.specs.Rows.{Row}
 use Rattle.fleet_model.specs.Handles.{Handle}
 use Rattle.fleet_model.specs.Nodes.{Tables, Node, NodeName, L0, Run, Segment, Tree, Trees, names, name_eq, node_named, segment_at, table_rows, tree_at, tree_or_empty}
@@ -27,6 +28,13 @@ use Rattle.fleet_read.specs.Stored.{rows_or_none}
 use Rattle.fleet_read.proofs.HeldRows.{held_are}
 use Rattle.fleet_read.proofs.Trees.{find_map}
 use Rattle.fleet_looks.specs.Looks.{views_named, views_in_tree, views_at}
+
+-- A run with an id is found whichever is compared with which.
+pub found_either_way : (id : ℕ) (runs : List SortedRun) → find (λ run. run.id == id) runs ≡ find (λ run. id == run.id) runs
+found_either_way id [] = refl
+found_either_way id (run ∷ runs) =
+    ap (λ b. cond b (Some run) (find (λ (r : SortedRun). r.id == id) runs)) (nat_eq_equiv.symm run.id id)
+    ∙ ap (λ (found : Option SortedRun). cond (id == run.id) (Some run) found) (found_either_way id runs)
 
 -- ---- trees
 

@@ -20,7 +20,8 @@ use fleet_rows::{RowEntry, SlateDBError, Ulid};
 use fleet_store::MemStore;
 use fleet_text::{NodeName, Reply, answers, listings};
 use fleet_tree::{
-    FlushList, LsmTreeState, ManifestCore, SortedRun, SsTableHandle, SsTableView, TableList,
+    FlushList, LsmTreeState, ManifestCore, RunList, SortedRun, SsTableHandle, SsTableView,
+    TableList,
 };
 use std::alloc::Global;
 
@@ -38,10 +39,10 @@ fn view_with(views: &FlushList, name: u64) -> Option<&SsTableView>
 }
 
 // The run with this id.
-fn run_with(runs: &[SortedRun], id: u32) -> Option<&SortedRun>
+fn run_with(runs: &RunList, id: u32) -> Option<&SortedRun>
     ensures { option_copied result ≡ find (λ run. id == run.id) runs.now }
 {
-    runs.iter().find(|run| id == run.id)
+    runs.with_id(id)
 }
 
 // Copies of the descriptions of the tables that these views name.
@@ -92,7 +93,7 @@ fn run_handles(
         ≡ option_map (map (λ view. view.sst)) (views_named (model.Run id) tree.now)) }
     ensures memory { IsOkUnless result SlateDBError.Memory }
 {
-    match run_with(tree.compacted.as_slice(), id) {
+    match run_with(&tree.compacted, id) {
         Some(run) => Ok(Some(handles_of(alloc, run.views.as_slice())?)),
         None => Ok(None),
     }

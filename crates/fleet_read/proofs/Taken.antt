@@ -9,7 +9,7 @@ use Rattle.row_model.specs.Rows.{Row, rows_of_key}
 use Rattle.fleet_model.specs.Nodes.{table_rows}
 use Rattle.fleet_model.specs.Store.{Store}
 use Rattle.fleet_scan.specs.KeyReads.{KeyReading, TakesRows, found_with}
-use Rattle.step_laws.proofs.Elements.{all_back, all_unflat}
+use Rattle.step_laws.proofs.Elements.{all_back, all_front}
 use Rattle.fleet_tree.specs.Views.{View}
 use Rattle.fleet_tree.specs.declared.run.SortedRun.{SortedRun}
 use Rattle.fleet_read.specs.Stored.{view_rows}
@@ -58,12 +58,17 @@ left_hidden store key views left first now all hides = all now (takes_hidden now
 pub left_none : (store : Store) (key : List ℕ) (views left : List View) (first now : KeyReading) → TakesLeft store key views left first now → left ≡ [] → TakesRows first (view_rows store key views) now
 left_none store key views left first now all none = all now (takes_none now (view_rows store key left) (ap (view_rows store key) none))
 
+-- The tables of some of the views left were taken.
+pub left_some : (store : Store) (key : List ℕ) (views left some rest : List View) (first now new : KeyReading) → TakesLeft store key views left first now → left ≡ some ++ rest
+    → TakesRows now (view_rows store key some) new → TakesLeft store key views rest first new
+left_some store key views left some rest first now new all is one = λ read more.
+    all read (takes_same now read (view_rows store key some ++ view_rows store key rest) (view_rows store key left)
+    (sym (view_parts store key some rest) ∙ ap (view_rows store key) (sym is)) (takes_both now new read (view_rows store key some) (view_rows store key rest) one more))
+
 -- The table of one of the views left was taken.
 pub left_one : (store : Store) (key : List ℕ) (views left : List View) (view : View) (rest : List View) (first now new : KeyReading) → TakesLeft store key views left first now → left ≡ view ∷ rest
     → TakesRows now (view_rows store key (view ∷ [])) new → TakesLeft store key views rest first new
-left_one store key views left view rest first now new all is one = λ read more.
-    all read (takes_same now read (view_rows store key (view ∷ []) ++ view_rows store key rest) (view_rows store key left)
-    (sym (view_parts store key (view ∷ []) rest) ∙ ap (view_rows store key) (sym is)) (takes_both now new read (view_rows store key (view ∷ [])) (view_rows store key rest) one more))
+left_one store key views left view rest first now new all is one = left_some store key views left (view ∷ []) rest first now new all is one
 
 -- The views left are held.
 pub left_held : (P : View → Type 0) (left : List View) (view : View) (rest : List View) → left ≡ view ∷ rest → AllByRecursion P left → P view × AllByRecursion P rest
@@ -71,33 +76,25 @@ left_held P left view rest is all = subst (AllByRecursion P) is all
 
 -- ---- runs
 
-abbrev run_views : SortedRun → List View
-run_views run = run.views
+-- The views of runs.
+abbrev pub views_of : List SortedRun → List View
+views_of runs = flat_map (λ (run : SortedRun). run.views) runs
 
--- One more run of the tree was taken.
-pub run_taken : (store : Store) (key : List ℕ) (flushes : List View) (runs : List SortedRun) (i : ℕ) (run : SortedRun) (views : List View) (first now new : KeyReading) → i < length runs → run ≡ slice_index_or runs i run → views ≡ run.views
-    → TakesRows first (view_rows store key (flushes ++ flat_map run_views (take i runs))) now → TakesRows now (view_rows store key views) new → TakesRows first (view_rows store key (flushes ++ flat_map run_views (take (i + 1) runs))) new
-run_taken store key flushes runs i run views first now new below at are so_far one =
-    let before : List View = flushes ++ flat_map run_views (take i runs) in
-    let more : flat_map run_views (take (i + 1) runs) ≡ flat_map run_views (take i runs) ++ views =
-    ap (flat_map run_views) (take_more runs i run below ∙ ap (λ (r : SortedRun). take i runs ++ r ∷ []) (sym at))
-    ∙ (flat_map-append run_views (take i runs) (run ∷ []) ∙ ap (λ (w : List View). flat_map run_views (take i runs) ++ w) (append-nil run.views ∙ sym are)) in
-    takes_same first new (view_rows store key before ++ view_rows store key views) (view_rows store key (flushes ++ flat_map run_views (take (i + 1) runs)))
-    (sym (view_parts store key before views) ∙ ap (view_rows store key) (append_assoc flushes (flat_map run_views (take i runs)) views ∙ ap (λ (w : List View). flushes ++ w) (sym more)))
-    (takes_both first now new (view_rows store key before) (view_rows store key views) so_far one)
+-- The tables of the flushes were taken, and those of all runs are left.
+pub runs_left : (store : Store) (key : List ℕ) (flushes views : List View) (runs : List SortedRun) (first now : KeyReading) → views ≡ flushes → TakesRows first (view_rows store key views) now
+    → TakesLeft store key (flushes ++ views_of runs) (views_of runs) first now
+runs_left store key flushes views runs first now are taken =
+    left_some store key (flushes ++ views_of runs) (flushes ++ views_of runs) views (views_of runs) first first now (λ read more. more) (ap (λ (w : List View). w ++ views_of runs) (sym are)) taken
 
--- All runs of the tree were taken.
-pub runs_taken : (store : Store) (key : List ℕ) (flushes : List View) (runs : List SortedRun) (i : ℕ) (first now : KeyReading) → length runs ≤ i → TakesRows first (view_rows store key (flushes ++ flat_map run_views (take i runs))) now
-    → TakesRows first (view_rows store key (flushes ++ flat_map run_views runs)) now
-runs_taken store key flushes runs i first now over taken = takes_same first now _ _ (ap (λ (rs : List SortedRun). view_rows store key (flushes ++ flat_map run_views rs)) (take_all i runs over)) taken
+-- The tables of one of the runs left were taken.
+pub left_run : (store : Store) (key : List ℕ) (all : List View) (left : List SortedRun) (run : SortedRun) (rest : List SortedRun) (views : List View) (first now new : KeyReading)
+    → TakesLeft store key all (views_of left) first now → left ≡ run ∷ rest → views ≡ run.views → TakesRows now (view_rows store key views) new → TakesLeft store key all (views_of rest) first new
+left_run store key all left run rest views first now new so_far is are one =
+    left_some store key all (views_of left) views (views_of rest) first now new so_far (ap views_of is ∙ ap (λ (w : List View). w ++ views_of rest) (sym are)) one
 
--- What holds of all views of a tree holds of those of a run.
-pub run_held : (P : View → Type 0) (flushes : List View) (runs : List SortedRun) (i : ℕ) (run : SortedRun) (views : List View) → i < length runs → run ≡ slice_index_or runs i run → views ≡ run.views → AllByRecursion P (flushes ++ flat_map run_views runs) → AllByRecursion P views
-run_held P flushes runs i run views below at are all =
-    let each = all_unflat P run_views runs (all_back P flushes (flat_map run_views runs) all) in
-    subst (AllByRecursion P) (sym are) (subst (λ (r : SortedRun). AllByRecursion P r.views) (sym at) (at_place runs i below each))
-  where
-    at_place : (runs : List SortedRun) (i : ℕ) → i < length runs → AllByRecursion (λ (r : SortedRun). AllByRecursion P r.views) runs → AllByRecursion P (slice_index_or runs i run).views
-    at_place [] i below all = absurd (omega (arith, below))
-    at_place (r ∷ runs) zero below all = all.0
-    at_place (r ∷ runs) (suc i) below all = at_place runs i (omega (arith, below)) all.1
+-- The views of the runs left are held, those of the next one and those of the rest.
+pub run_held : (P : View → Type 0) (left : List SortedRun) (run : SortedRun) (rest : List SortedRun) (views : List View) → left ≡ run ∷ rest → views ≡ run.views → AllByRecursion P (views_of left) → AllByRecursion P views
+run_held P left run rest views is are all = subst (AllByRecursion P) (sym are) (all_front P run.views (views_of rest) (subst (λ runs. AllByRecursion P (views_of runs)) is all))
+
+pub rest_held : (P : View → Type 0) (left : List SortedRun) (run : SortedRun) (rest : List SortedRun) → left ≡ run ∷ rest → AllByRecursion P (views_of left) → AllByRecursion P (views_of rest)
+rest_held P left run rest is all = all_back P run.views (views_of rest) (subst (λ runs. AllByRecursion P (views_of runs)) is all)

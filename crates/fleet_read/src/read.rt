@@ -116,7 +116,7 @@ fn take_tree(
     ensures memory { IsOkUnless result SlateDBError.Memory }
 {
     take_tables(alloc, store, tree.l0.iter(), key, range, read)?;
-    'runs: for run in tree.compacted.as_slice() {
+    'runs: for run in tree.compacted.iter() {
         let views = Views::of_slice(run.views.as_slice());
         take_tables(alloc, store, views, key, range, read)?;
     }

@@ -11,7 +11,7 @@ use fleet_rows::SlateDBError;
 use fleet_scan::ScanSources;
 use fleet_store::MemStore;
 use fleet_table::RunData;
-use fleet_tree::{FlushList, LsmTreeState, SortedRun, SsTableView};
+use fleet_tree::{FlushList, LsmTreeState, Runs, SsTableView};
 use std::alloc::Global;
 use std::ops::Bound;
 
@@ -122,12 +122,12 @@ fn add_flushes(
 fn add_runs(
     alloc: Global,
     store: &MemStore,
-    runs: &[SortedRun],
+    runs: Runs<'_>,
     range: &BytesRange,
     sources: &mut ScanSources,
 ) -> Result<(), SlateDBError>
     ensures added { OnOk result (sources.new ≡ sources.old
-        ++ run_sources store.now.world.store (range_of range.now) runs.now) }
+        ++ run_sources store.now.world.store (range_of range.now) runs.entry) }
     ensures memory { IsOkUnless result SlateDBError.Memory }
 {
     'runs: for run in runs {
@@ -150,6 +150,6 @@ pub(crate) fn tree_sources(
 {
     let mut sources = ScanSources::new(alloc);
     add_flushes(alloc, store, &tree.l0, range, &mut sources)?;
-    add_runs(alloc, store, tree.compacted.as_slice(), range, &mut sources)?;
+    add_runs(alloc, store, tree.compacted.iter(), range, &mut sources)?;
     Ok(sources)
 }

@@ -1,10 +1,11 @@
 -- The ids that fresh runs must be above.
-use Rattle.std.proofs.Common.{◌≡◌, refl, sym, ◌∙◌, ap, ℕ, ◌+◌, ◌<◌, List, [], ◌∷◌, ◌++◌, append_assoc, get_or, take, length, map, max, arith}
+use Rattle.std.proofs.Common.{◌≡◌, refl, sym, ◌∙◌, ap, ℕ, ◌+◌, ◌<◌, ◌^◌, List, [], ◌∷◌, ◌++◌, append_assoc, get_or, take, length, map, max, arith}
 use Rattle.std.specs.Prelude.{flat_map}
 use Rattle.std.proofs.lemmas.List.{append-nil, take_more, map-append}
 use Rattle.sched_model.specs.FreshRuns.{above_all, capped_id, destination_list, fresh_run_id}
 use Rattle.fleet_model.specs.Sources.{all_run_ids}
 use Rattle.fleet_tree.specs.Trees.{RunFlushes, segment_of}
+use Rattle.fleet_tree.specs.declared.run.SortedRun.{SortedRun}
 use Rattle.fleet_tree.specs.declared.tree.LsmTreeState.{LsmTreeState}
 use Rattle.fleet_jobs.specs.Parts.JobParts.{JobParts}
 use Rattle.fleet_jobs.specs.Jobs.{jobs_of}
@@ -20,15 +21,18 @@ above_all-append (x ∷ xs) ys =
     let rest = above_all-append xs ys in
     omega (arith, rest)
 
--- One more run.
-pub above_run : {X : Type 0} (id : X → ℕ) (above next made : ℕ) (xs : List X) (i : ℕ) (x : X) → i < length xs → x ≡ get_or xs i x
-    → next ≡ capped_id (max above (above_all (map id (take i xs)))) → made ≡ max next (capped_id (id x + 1))
-    → made ≡ capped_id (max above (above_all (map id (take (i + 1) xs))))
-above_run id above next made xs i x lt is so step =
-    let more : take (i + 1) xs ≡ take i xs ++ x ∷ [] = take_more xs i x lt ∙ ap (λ y. take i xs ++ y ∷ []) (sym is) in
-    let ids : map id (take (i + 1) xs) ≡ map id (take i xs) ++ id x ∷ [] = ap (map id) more ∙ map-append id (take i xs) (x ∷ []) in
-    let both : above_all (map id (take (i + 1) xs)) ≡ max (above_all (map id (take i xs))) (max (id x + 1) 0) = ap above_all ids ∙ above_all-append (map id (take i xs)) (id x ∷ []) in
-    omega (arith, both, so, step)
+-- One run less is left.
+pub one_run_less : (run : SortedRun) (left rest : List SortedRun) (next made : ℕ) → left ≡ run ∷ rest → made ≡ max next (capped_id (run.id + 1))
+    → capped_id (max made (above_all (map (λ r. r.id) rest))) ≡ capped_id (max next (above_all (map (λ r. r.id) left)))
+one_run_less run left rest next made is step =
+    let all = ap (λ (runs : List SortedRun). above_all (map (λ r. r.id) runs)) is in
+    omega (arith, all, step)
+
+-- No run is left.
+pub no_run_left : (left : List SortedRun) (next all : ℕ) → next < 2 ^ 32 → left ≡ [] → capped_id (max next (above_all (map (λ r. r.id) left))) ≡ all → next ≡ all
+no_run_left left next all fits is so =
+    let none = ap (λ (runs : List SortedRun). above_all (map (λ r. r.id) runs)) is in
+    omega (arith, none, fits, so)
 
 -- One more tree.
 pub above_segment : (root : List ℕ × LsmTreeState) (above made : ℕ) (xs : List (List ℕ × LsmTreeState)) (i : ℕ) (x : List ℕ × LsmTreeState) → i < length xs → x ≡ get_or xs i x

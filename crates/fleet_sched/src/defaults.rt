@@ -16,7 +16,7 @@ use bytes::Bytes;
 use fleet_book::{CompactionRequest, CompactorStateView};
 use fleet_jobs::{CompactionSpec, SourceId, lowest_run};
 use fleet_rows::SlateDBError;
-use fleet_tree::{LsmTreeState, SortedRun};
+use fleet_tree::{LsmTreeState, Runs};
 use std::alloc::{AllocError, Global};
 
 /// Accepts each job.
@@ -98,7 +98,7 @@ fn full_spec(
     ensures { IfOk result
         (λ spec. option_map spec_of spec ≡ full_spec_in (segment.now, tree.now)) }
 {
-    let sources = sources(alloc, tree.compacted.as_slice())?;
+    let sources = sources(alloc, tree.compacted.iter())?;
     // It need not be the last run: the order of a tree's runs is not checked where a view is made.
     let Some(lowest) = lowest_run(sources.as_slice()) else {
         return Ok(None);
@@ -107,9 +107,9 @@ fn full_spec(
     Ok(Some(CompactionSpec::for_segment(segment, sources, lowest)))
 }
 
-fn sources(alloc: Global, runs: &[SortedRun]) -> Result<Vec<SourceId>, AllocError>
+fn sources(alloc: Global, runs: Runs<'_>) -> Result<Vec<SourceId>, AllocError>
     ensures { IfOk result
-        (λ sources. map name_of sources.items ≡ map (λ run. Run run.id) runs.now) }
+        (λ sources. map name_of sources.items ≡ map (λ run. Run run.id) runs.entry) }
 {
     let mut sources = Vec::new(alloc);
     'runs: for run in runs {

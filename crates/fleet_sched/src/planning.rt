@@ -59,7 +59,7 @@ fn add_tree(
     trees.push(Planned {
         segment: Clone::clone(segment)?,
         flushes: sized_flushes(alloc, &tree.l0)?,
-        runs: sized_runs(alloc, tree.compacted.as_slice())?,
+        runs: sized_runs(alloc, tree.compacted.iter())?,
         used: nodes_used(alloc, state, segment.as_slice())?,
     })?;
     Ok(())
@@ -181,7 +181,7 @@ fn above_tree(above: u32, tree: &LsmTreeState) -> u32
     ensures { result ≡ capped_id (max above (above_all (map (λ run. run.id) tree.now.compacted))) }
 {
     let mut next = above;
-    'runs: for run in tree.compacted.as_slice() {
+    'runs: for run in tree.compacted.iter() {
         next = next.max(run.id.saturating_add(1));
     }
     next

@@ -9,7 +9,7 @@ ghost use Rattle.fleet_sched.specs.Sizes.{flush_in, run_in};
 
 use fleet_jobs::SourceId;
 use fleet_rows::Ulid;
-use fleet_tree::{FlushList, SortedRun, SsTableView};
+use fleet_tree::{FlushList, Runs, SortedRun, SsTableView};
 use std::alloc::{AllocError, Global};
 use std::marker::Model;
 
@@ -66,8 +66,8 @@ fn sized_flush(view: &SsTableView) -> SizedFlush
     }
 }
 
-pub fn sized_runs(alloc: Global, runs: &[SortedRun]) -> Result<Vec<SizedRun>, AllocError>
-    ensures { IfOk result (λ sized. sized.items ≡ map run_in runs.now) }
+pub fn sized_runs(alloc: Global, runs: Runs<'_>) -> Result<Vec<SizedRun>, AllocError>
+    ensures { IfOk result (λ sized. sized.items ≡ map run_in runs.entry) }
 {
     let mut sized = Vec::new(alloc);
     'runs: for run in runs {

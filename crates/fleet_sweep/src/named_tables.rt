@@ -11,7 +11,7 @@ use fleet_book::VersionedCompactions;
 use fleet_jobs::Compaction;
 use fleet_plan::Subcompaction;
 use fleet_rows::Ulid;
-use fleet_tree::{LsmTreeState, ManifestCore, SortedRun, SsTableHandle, TableList, Views};
+use fleet_tree::{LsmTreeState, ManifestCore, Runs, SsTableHandle, TableList, Views};
 use std::alloc::{AllocError, Global};
 
 /// The ids of the tables that the nodes of all trees name, and of those that jobs that are not over
@@ -46,11 +46,11 @@ fn add_tree(ids: &mut Vec<Ulid>, tree: &LsmTreeState) -> Result<(), AllocError>
     ensures { OnOk result (ids.new.items ≡ ids.old.items ++ ids_in_tree tree.now) }
 {
     add_views(ids, tree.l0.iter())?;
-    add_runs(ids, tree.compacted.as_slice())
+    add_runs(ids, tree.compacted.iter())
 }
 
-fn add_runs(ids: &mut Vec<Ulid>, runs: &[SortedRun]) -> Result<(), AllocError>
-    ensures { OnOk result (ids.new.items ≡ ids.old.items ++ ids_in_runs runs.now) }
+fn add_runs(ids: &mut Vec<Ulid>, runs: Runs<'_>) -> Result<(), AllocError>
+    ensures { OnOk result (ids.new.items ≡ ids.old.items ++ ids_in_runs runs.entry) }
 {
     'runs: for run in runs {
         add_views(ids, Views::of_slice(run.sst_views()))?;

@@ -6,7 +6,7 @@ use fleet_jobs::{Compaction, CompactionContext, CompactionSpec, Release, SourceI
 use fleet_plan::Subcompaction;
 use fleet_range::BytesRange;
 use fleet_rows::{Settings, SlateDBError, Ulid};
-use fleet_tree::{BlockList, OutputList, RunList, SsTableHandle, TableList, ViewList};
+use fleet_tree::{BlockList, OutputList, SharedList, SsTableHandle, TableList, ViewList};
 use std::alloc::{AllocError, Global};
 use std::process::Abort;
 
@@ -47,7 +47,7 @@ fn args(alloc: Global, number: u64) -> StartCompactionJobArgs {
         attempt: 3,
         destination: 7,
         l0_sst_views: ViewList::new(alloc),
-        sorted_runs: RunList::new(alloc),
+        sorted_runs: SharedList::new(alloc),
         compaction_clock_tick: -5,
         is_dest_last_run: true,
         retention_min_seq: Some(4),

@@ -148,7 +148,7 @@ pub fn nodes_text(alloc: Global, tree: &LsmTreeState) -> Result<String, AllocErr
     'flushes: for view in tree.l0.iter() {
         nodes.push(flush_text(alloc, view.id)?)?;
     }
-    'runs: for run in tree.compacted.as_slice() {
+    'runs: for run in tree.compacted.iter() {
         nodes.push(lettered(alloc, "r", run.id as u128)?)?;
     }
     listed(alloc, &nodes)

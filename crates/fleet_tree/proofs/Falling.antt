@@ -1,17 +1,20 @@
 -- Runs whose ids fall, and the places of runs among them.
-use Rattle.std.proofs.Common.{◌≡◌, refl, sym, ap, subst, ℕ, zero, suc, ◌<◌, ◌≤◌, ◌⊎◌, inl, inr, List, [], ◌∷◌, ◌++◌, ◌-◌, ◌≢◌, length, get_or, drop, Bool, true, false, not, cond, ◌+◌, arith}
-use Rattle.std.specs.Prelude.{◌==◌, ◌&&◌, ◌||◌, nat_lt, slice_get, take, Option, Some, None}
-use Rattle.std.specs.List.{HoldsAt, position_or_len}
+use Rattle.std.proofs.Common.{◌≡◌, refl, sym, ◌∙◌, ap, subst, ℕ, zero, suc, ◌<◌, ◌≤◌, ◌⊎◌, inl, inr, List, [], ◌∷◌, ◌++◌, ◌-◌, ◌≢◌, length, get_or, drop, Bool, true, false, not, cond, ◌+◌, arith}
+use Rattle.std.specs.Prelude.{◌==◌, ◌&&◌, ◌||◌, nat_lt, slice_get, take, Option, Some, None, option_to_list}
+use Rattle.std.specs.List.{HoldsAt, list_all, position_or_len}
 use Rattle.std.specs.List.Sorted.{IsNonDecreasingBy, IsPartitionPoint}
 use Rattle.std.specs.Ordering.{MatchOrdering, nat_cmp, ordering_index}
 use Rattle.std.specs.declared.cmp.Ordering.{Ordering}
 use Rattle.std.specs.declared.cmp.Ordering.TheVariants.{Less, Equal, Greater}
 use Rattle.std.proofs.lemmas.Bool.{and_parts, cases_lt, eq-eqb, lt-ltb, ltb-true, ne_eqb}
 use Rattle.std.proofs.lemmas.Cmp.{ranked}
+use Rattle.std.proofs.lemmas.List.{length-append}
 use Rattle.std.proofs.lemmas.List.Sums.{position_or_len_is}
-use Rattle.fleet_tree.specs.Falling.{are_falling, fits_between, is_above_first, is_below_last}
-use Rattle.fleet_tree.specs.Lists.{or_none, spliced}
+use Rattle.std.proofs.lemmas.Option.{get_or_from_slice_get}
+use Rattle.fleet_tree.specs.Falling.{are_falling, fits_between, is_above_first, is_above_one, is_below_last, is_below_one}
+use Rattle.fleet_tree.specs.Lists.{joined, spliced}
 use Rattle.fleet_tree.specs.declared.run.SortedRun.{SortedRun}
+use Rattle.fleet_tree.proofs.Places.{left_here, place_behind, place_in_front}
 
 -- Runs fall if the first is above the second, and the others fall.
 pub falling_on : (runs : List SortedRun) (first : SortedRun) → 1 ≤ length runs → first ≡ get_or runs 0 first
@@ -37,19 +40,6 @@ falling_with (first ∷ next ∷ runs) last run is =
     by : (b d : Bool) → (d && nat_lt run.id last.id) ≡ are_falling (next ∷ (runs ++ run ∷ [])) → ((b && d) && nat_lt run.id last.id) ≡ (b && are_falling (next ∷ (runs ++ run ∷ [])))
     by true d rest = rest
     by false d rest = refl
-
--- One run falls.
-pub falling_alone : (runs : List SortedRun) (run : SortedRun) → None ≡ slice_get runs (length runs - 1) → true ≡ are_falling (runs ++ run ∷ [])
-falling_alone [] run is = refl
-falling_alone (first ∷ []) run is = absurd (cc is)
-falling_alone (first ∷ next ∷ runs) run is =
-    let behind : length (first ∷ next ∷ runs) - 1 ≡ suc (length (next ∷ runs) - 1) = omega arith in
-    let there : None ≡ slice_get (next ∷ runs) (length (next ∷ runs) - 1) = rw behind at is in
-    absurd (some_last next runs there)
-  where
-    some_last : (x : SortedRun) (xs : List SortedRun) → None ≢ slice_get (x ∷ xs) (length (x ∷ xs) - 1)
-    some_last x [] e = cc e
-    some_last x (y ∷ ys) e = some_last y ys (let m : length (x ∷ y ∷ ys) - 1 ≡ suc (length (y ∷ ys) - 1) = omega arith in rw m at e)
 
 -- ---- falling ids, by place
 
@@ -146,6 +136,115 @@ module _ (id : ℕ) (runs : List SortedRun) (falls : are_falling runs ≡ true) 
       differs k within (inl before) = lower_is_other id (get_or runs k any).id ((parted rises).0 k any (omega arith) before)
       differs k within (inr after) = higher_is_other id (get_or runs k any).id ((parted rises).1 k any after within)
 
+both : (a b : Bool) → a ≡ true → b ≡ true → (a && b) ≡ true
+both true true x y = refl
+both true false x y = y
+both false b x y = x
+
+-- No run has an id that is below the last.
+pub all_above : (id : ℕ) (runs : List SortedRun) (last : SortedRun) → are_falling runs ≡ true → Some last ≡ slice_get runs (length runs - 1) → id < last.id
+    → length runs ≡ position_or_len (λ run. run.id == id) runs
+all_above id [] last falls is lower = refl
+all_above id (run ∷ []) last falls is lower =
+    let same : last ≡ run = cc is in
+    let other : (run.id == id) ≡ false = ne_eqb run.id id (λ e. let l = ap (λ (r : SortedRun). r.id) same in omega (arith, lower, e, l)) in
+    sym (ap (λ b. cond (not b) 1 0) other)
+all_above id (run ∷ next ∷ runs) last falls is lower =
+    let parts = and_parts (is_above_first run (next ∷ runs)) (are_falling (next ∷ runs)) falls in
+    let behind : length (run ∷ next ∷ runs) - 1 ≡ suc (length (next ∷ runs) - 1) = omega arith in
+    let there : Some last ≡ slice_get (next ∷ runs) (length (next ∷ runs) - 1) = rw behind at is in
+    let rest : length (next ∷ runs) ≡ position_or_len (λ r. r.id == id) (next ∷ runs) = all_above id (next ∷ runs) last parts.1 there lower in
+    let at_last = get_or_from_slice_get (next ∷ runs) (length (next ∷ runs) - 1) last last (sym there) in
+    let above = not_above (run ∷ next ∷ runs) falls 0 (suc (length (next ∷ runs) - 1)) last (omega arith) (omega arith) in
+    let least = ap (λ (r : SortedRun). r.id) at_last in
+    let other : (run.id == id) ≡ false = ne_eqb run.id id (λ e. omega (arith, lower, e, above, least)) in
+    let first : position_or_len (λ r. r.id == id) (run ∷ next ∷ runs) ≡ 1 + position_or_len (λ r. r.id == id) (next ∷ runs) =
+    ap (λ b. cond (not b) (1 + position_or_len (λ (r : SortedRun). r.id == id) (next ∷ runs)) 0) other in
+    omega (arith, rest, first)
+
+-- Where runs fall, the first tells whether all are below an id.
+lower_all : (id : ℕ) (first : SortedRun) (runs : List SortedRun) → is_above_first first runs ≡ true → are_falling runs ≡ true → first.id < id → list_all (λ run. nat_lt run.id id) runs ≡ true
+lower_all id first [] above falls lower = refl
+lower_all id first (next ∷ runs) above falls lower =
+    let parts = and_parts (is_above_first next runs) (are_falling runs) falls in
+    let under = ltb-true next.id first.id above in
+    both (nat_lt next.id id) (list_all (λ run. nat_lt run.id id) runs) (lt-ltb next.id id (omega (arith, under, lower)))
+    (lower_all id next runs parts.0 parts.1 (omega (arith, under, lower)))
+
+pub first_tells : (id : ℕ) (runs : List SortedRun) (first : SortedRun) (rest : List SortedRun) → runs ≡ first ∷ rest → are_falling runs ≡ true
+    → nat_lt first.id id ≡ list_all (λ run. nat_lt run.id id) runs
+first_tells id runs first rest is falls =
+    let parts = and_parts (is_above_first first rest) (are_falling rest) (ap are_falling (sym is) ∙ falls) in
+    by (nat_lt first.id id) refl parts.0 parts.1 ∙ ap (list_all (λ (run : SortedRun). nat_lt run.id id)) (sym is)
+  where
+    by : (b : Bool) → nat_lt first.id id ≡ b → is_above_first first rest ≡ true → are_falling rest ≡ true → b ≡ (b && list_all (λ run. nat_lt run.id id) rest)
+    by false e above falls = refl
+    by true e above falls = sym (lower_all id first rest above falls (ltb-true first.id id e))
+
+-- Some run is the last one.
+none_last : (x : SortedRun) (xs : List SortedRun) → None ≢ slice_get (x ∷ xs) (length (x ∷ xs) - 1)
+none_last x [] e = cc e
+none_last x (y ∷ ys) e = none_last y ys (let m : length (x ∷ y ∷ ys) - 1 ≡ suc (length (y ∷ ys) - 1) = omega arith in rw m at e)
+
+-- Runs fall with one more if they fall without it, and it is below the last, if there is one.
+pub falling_more : (runs : List SortedRun) (run : SortedRun) (last : Option SortedRun) → last ≡ slice_get runs (length runs - 1) → (are_falling runs && is_below_one run last) ≡ are_falling (runs ++ run ∷ [])
+falling_more runs run (Some last) is = falling_with runs last run is
+falling_more [] run None is = refl
+falling_more (first ∷ runs) run None is = absurd (none_last first runs is)
+
+-- Parts of falling runs fall.
+pub falling_front : (xs ys : List SortedRun) → are_falling (xs ++ ys) ≡ true → are_falling xs ≡ true
+falling_front [] ys falls = refl
+falling_front (x ∷ []) ys falls = refl
+falling_front (x ∷ y ∷ xs) ys falls =
+    let parts = and_parts (is_above_first x (y ∷ (xs ++ ys))) (are_falling (y ∷ (xs ++ ys))) falls in
+    both (is_above_first x (y ∷ xs)) (are_falling (y ∷ xs)) parts.0 (falling_front (y ∷ xs) ys parts.1)
+
+pub falling_rest : (xs ys : List SortedRun) → are_falling (xs ++ ys) ≡ true → are_falling ys ≡ true
+falling_rest [] ys falls = falls
+falling_rest (x ∷ xs) ys falls = falling_rest xs ys (and_parts (is_above_first x (xs ++ ys)) (are_falling (xs ++ ys)) falls).1
+
+-- Runs that do not fall do not fall with one more.
+pub falling_not : (runs : List SortedRun) (run : SortedRun) → are_falling runs ≡ false → are_falling (runs ++ run ∷ []) ≡ false
+falling_not runs run not_falls = by (are_falling (runs ++ run ∷ [])) refl
+  where
+    by : (b : Bool) → are_falling (runs ++ run ∷ []) ≡ b → b ≡ false
+    by false e = refl
+    by true e = absurd (cc (sym not_falls ∙ falling_front runs (run ∷ []) e))
+
+-- ---- a look at one chunk after another
+
+-- The runs of a chunk fall, and those of the later ones.
+pub chunk_falls : (chunks : List (List SortedRun)) (i : ℕ) (chunk : List SortedRun) → i < length chunks → chunk ≡ get_or chunks i chunk → are_falling (joined (drop i chunks)) ≡ true
+    → are_falling chunk ≡ true
+chunk_falls chunks i chunk below is falls = falling_front chunk (joined (drop (i + 1) chunks)) (ap are_falling (sym (left_here chunks i chunk below is)) ∙ falls)
+
+pub others_fall : (chunks : List (List SortedRun)) (i : ℕ) (chunk : List SortedRun) → i < length chunks → chunk ≡ get_or chunks i chunk → are_falling (joined (drop i chunks)) ≡ true
+    → are_falling (joined (drop (i + 1) chunks)) ≡ true
+others_fall chunks i chunk below is falls = falling_rest chunk (joined (drop (i + 1) chunks)) (ap are_falling (sym (left_here chunks i chunk below is)) ∙ falls)
+
+-- The first run with an id is in a chunk, or behind it.
+pub found_here : (id before place all : ℕ) (chunks : List (List SortedRun)) (i : ℕ) (chunk : List SortedRun) → i < length chunks → chunk ≡ get_or chunks i chunk
+    → place ≡ position_or_len (λ run. run.id == id) chunk → place < length chunk → before + position_or_len (λ run. run.id == id) (joined (drop i chunks)) ≡ all → before + place ≡ all
+found_here id before place all chunks i chunk below is at within so_far =
+    let left = ap (position_or_len (λ (run : SortedRun). run.id == id)) (left_here chunks i chunk below is) in
+    let here = place_in_front (λ (run : SortedRun). run.id == id) chunk (joined (drop (i + 1) chunks)) (omega (arith, at, within)) in
+    omega (arith, at, so_far, left, here)
+
+pub found_later : (id before place all : ℕ) (chunks : List (List SortedRun)) (i : ℕ) (chunk : List SortedRun) → i < length chunks → chunk ≡ get_or chunks i chunk
+    → place ≡ position_or_len (λ run. run.id == id) chunk → length chunk ≤ place → before + position_or_len (λ run. run.id == id) (joined (drop i chunks)) ≡ all
+    → before + place + position_or_len (λ run. run.id == id) (joined (drop (i + 1) chunks)) ≡ all
+found_later id before place all chunks i chunk below is at past so_far =
+    let left = ap (position_or_len (λ (run : SortedRun). run.id == id)) (left_here chunks i chunk below is) in
+    let later = place_behind (λ (run : SortedRun). run.id == id) chunk (joined (drop (i + 1) chunks)) (omega (arith, at, past)) in
+    let most = place_within id chunk in
+    omega (arith, at, past, so_far, left, later, most)
+
+-- So many runs are in a chunk and behind it.
+pub left_count : (chunks : List (List SortedRun)) (i : ℕ) (chunk : List SortedRun) → i < length chunks → chunk ≡ get_or chunks i chunk
+    → length (joined (drop i chunks)) ≡ length chunk + length (joined (drop (i + 1) chunks))
+left_count chunks i chunk below is = ap length (left_here chunks i chunk below is) ∙ length-append chunk (joined (drop (i + 1) chunks))
+
 -- ---- an exchange of a part
 
 -- What is behind falling runs falls.
@@ -169,14 +268,9 @@ above_behind (suc count) run (next ∷ runs) above falls =
         let upto = ltb-true other.id next.id above in
         lt-ltb other.id run.id (omega (arith, upto, lower))
 
-both : (a b : Bool) → a ≡ true → b ≡ true → (a && b) ≡ true
-both true true x y = refl
-both true false x y = y
-both false b x y = x
-
 -- The runs without those from one place up to another, and with a run there if one is given.
 abbrev exchanged : (place end : ℕ) → Option SortedRun → List SortedRun → List SortedRun
-exchanged place end run runs = take place runs ++ or_none run ++ drop end runs
+exchanged place end run runs = take place runs ++ option_to_list run ++ drop end runs
 
 -- Falling runs fall after an exchange of a part by a run that fits.
 falling_exchanged : (runs : List SortedRun) (place end : ℕ) (run : Option SortedRun) → place ≤ end → are_falling runs ≡ true
@@ -218,12 +312,28 @@ known_spliced runs place count run = by (are_falling runs) (fits_between runs pl
     by true false falls fits = refl
     by false b falls fits = refl
 
--- ---- the last run
+-- ---- the runs beside a part
 
-pub below_last : (run last : SortedRun) (runs : List SortedRun) → Some last ≡ slice_get runs (length runs - 1) → nat_lt run.id last.id ≡ is_below_last run runs
-below_last run last [] is = absurd (cc is)
-below_last run last (first ∷ []) is = let same : last ≡ first = cc is in rw same refl
-below_last run last (first ∷ next ∷ runs) is =
+last_below : (run last : SortedRun) (runs : List SortedRun) → Some last ≡ slice_get runs (length runs - 1) → nat_lt run.id last.id ≡ is_below_last run runs
+last_below run last [] is = absurd (cc is)
+last_below run last (first ∷ []) is = let same : last ≡ first = cc is in rw same refl
+last_below run last (first ∷ next ∷ runs) is =
     let behind : length (first ∷ next ∷ runs) - 1 ≡ suc (length (next ∷ runs) - 1) = omega arith in
     let there : Some last ≡ slice_get (next ∷ runs) (length (next ∷ runs) - 1) = rw behind at is in
-    below_last run last (next ∷ runs) there
+    last_below run last (next ∷ runs) there
+
+-- A run is below the last, if there is one.
+pub below_last : (run : SortedRun) (runs : List SortedRun) (last : Option SortedRun) → last ≡ slice_get runs (length runs - 1) → is_below_one run last ≡ is_below_last run runs
+below_last run runs (Some last) is = last_below run last runs is
+below_last run [] None is = refl
+below_last run (first ∷ runs) None is = absurd (none_last first runs is)
+
+-- A run is above the one at a place, if there is one.
+pub above_at : (run : SortedRun) (runs : List SortedRun) (end : ℕ) (next : Option SortedRun) → next ≡ slice_get runs end → is_above_one run next ≡ is_above_first run (drop end runs)
+above_at run runs end next is = ap (is_above_one run) is ∙ by runs end
+  where
+    by : (runs : List SortedRun) (end : ℕ) → is_above_one run (slice_get runs end) ≡ is_above_first run (drop end runs)
+    by [] zero = refl
+    by [] (suc end) = refl
+    by (first ∷ runs) zero = refl
+    by (first ∷ runs) (suc end) = by runs end

@@ -22,3 +22,13 @@ is_below_last run (other ∷ next ∷ runs) = is_below_last run (next ∷ runs)
 abbrev pub fits_between : List SortedRun → (start end : ℕ) → Option SortedRun → Bool
 fits_between runs start end None = true
 fits_between runs start end (Some run) = is_below_last run (take start runs) && is_above_first run (drop end runs)
+
+-- True if the run has a lower id than the one before it, or if there is none.
+abbrev pub is_below_one : SortedRun → Option SortedRun → Bool
+is_below_one run None = true
+is_below_one run (Some last) = nat_lt run.id last.id
+
+-- True if the run has a higher id than the one after it, or if there is none.
+abbrev pub is_above_one : SortedRun → Option SortedRun → Bool
+is_above_one run None = true
+is_above_one run (Some next) = nat_lt next.id run.id

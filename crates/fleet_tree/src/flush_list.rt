@@ -2,14 +2,14 @@
 
 ghost use Rattle.std.specs.Prelude.{◌≡◌, ◌↔◌, ◌==◌, ◌+◌, ◌++◌, [], ◌∷◌, find, fold, length, not, if◌then◌else◌, take_while, IsTrue, OnOk, OnErr, IfOk, IsOkUnless};
 ghost use Rattle.std.specs.List.{flat_map};
-ghost use Rattle.std.specs.Iterator.{item_count, YieldsFirstRef};
 ghost use Rattle.std.specs.Option.{option_copied};
 ghost use Rattle.std.specs.Cmp.Lexicographic.{pointwise, lists_per, lists_equiv};
 ghost use Rattle.row_model.specs.Written.Sizes.{saturated_sum};
 ghost use Rattle.fleet_tree.specs.contracts.view.SsTableViewEq.TheImpl.Laws as view_equiv;
 ghost use Rattle.fleet_tree.specs.contracts.view.SsTableViewPartialEq.TheImpl.Laws as view_eq;
 
-use crate::{SharedList, SsTableView, ViewList};
+use crate::items::are_equal;
+use crate::{Items, SharedList, SsTableView, ViewList};
 use fleet_rows::{Copies, SlateDBError, Ulid};
 use std::alloc::{AllocError, Global};
 use std::marker::Model;
@@ -79,10 +79,7 @@ impl FlushList {
     pub fn iter(&self) -> Views<'_>
         ensures { result ≡ self.now }
     {
-        Views {
-            first: self.newest.as_slice(),
-            chunks: self.older.as_slice(),
-        }
+        Items::of_chunks(self.newest.as_slice(), self.older.as_slice())
     }
 
     /// The newest flush with this id, if one has it.
@@ -270,68 +267,5 @@ impl Eq for FlushList {
     ghost laws = { lists_equiv view_equiv.laws-law };
 }
 
-fn are_equal(views: Views<'_>, others: Views<'_>) -> bool
-    ensures { result ≡ pointwise ⟦<SsTableView as PartialEq>⟧.eq views.entry others.entry }
-{
-    let mut others = others;
-    'views: for view in views {
-        match others.next() {
-            Some(other) => {
-                if view != other {
-                    return false;
-                }
-            }
-            None => return false,
-        }
-    }
-    others.next().is_none()
-}
-
-/// An iterator over views: the flushes of a tree, or the tables of a run. Contracts see the views
-/// left.
-#[derive(Debug, Drop)]
-pub struct Views<'a> {
-    first: &'a [SsTableView],
-    chunks: &'a [ViewList],
-}
-
-impl<'a> Model for Views<'a> {
-    ghost use Rattle.std.specs.Prelude.{List, ◌++◌};
-    ghost use Rattle.std.specs.List.{flat_map};
-    ghost use Rattle.fleet_tree.specs.Views.{View};
-
-    ghost Value = { List View };
-
-    ghost view = { λ v. v.first.now ++ flat_map (λ chunk. chunk) v.chunks.now };
-}
-
-impl<'a> Views<'a> {
-    /// An iterator over these views.
-    pub fn of_slice(views: &'a [SsTableView]) -> Views<'a>
-        ensures { result ≡ views.now }
-    {
-        Views {
-            first: views,
-            chunks: &[],
-        }
-    }
-}
-
-impl<'a> Iterator for Views<'a> {
-    type Item = &'a SsTableView;
-
-    ghost next_gives = { YieldsFirstRef (λ v. v) };
-
-    ghost remaining = { item_count (λ v. v) };
-
-    fn next(&mut self) -> Option<&'a SsTableView> {
-        'chunks: while self.first.is_empty() {
-            let (chunk, chunks) = self.chunks.split_first()?;
-            self.first = chunk.as_slice();
-            self.chunks = chunks;
-        }
-        let (view, rest) = self.first.split_first()?;
-        self.first = rest;
-        Some(view)
-    }
-}
+/// An iterator over views: the flushes of a tree, or the tables of a run.
+pub type Views<'a> = Items<'a, SsTableView>;

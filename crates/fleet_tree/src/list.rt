@@ -178,6 +178,31 @@ impl<T: Copies + Drop> SharedList<T> {
     }
 }
 
+impl<T: Copies + Drop> SharedList<SharedList<T>> {
+    /// Takes out the `count` items from a place of a chunk on, and puts an item there if one is
+    /// given. If no other list shares the chunks, none of them is copied. If out of memory, the
+    /// given item is dropped.
+    pub(crate) fn splice_chunk(
+        &mut self,
+        chunk: usize,
+        place: usize,
+        count: usize,
+        item: Option<T>,
+    ) -> Result<(), SlateDBError>
+        requires within { chunk < length self.old }
+        requires part { IfSome (slice_get self.old chunk) (λ c. place + count ≤ length c) }
+        ensures ok { OnOk result (IfSome (slice_get self.old chunk)
+            (λ c. self.new ≡ slice_set self.old chunk (spliced place count item c))) }
+        ensures err { OnErr result (self.new ≡ self.old) }
+        ensures memory { IsOkUnless result SlateDBError.Memory }
+    {
+        match &mut self.items {
+            Some(items) => splice_listed(Arc::make_mut(items)?, chunk, place, count, item),
+            None => unreachable!(),
+        }
+    }
+}
+
 impl SegmentList {
     /// Changes the tree of the segment at this place, counted from 0. If no other list shares the
     /// segments, none of them is copied. If out of memory, nothing changes.
@@ -195,6 +220,27 @@ impl SegmentList {
             None => unreachable!(),
         }
     }
+}
+
+// Exchanges a part of the chunk at this place.
+fn splice_listed<T: Copies + Drop>(
+    list: &mut ListOf<SharedList<T>>,
+    chunk: usize,
+    place: usize,
+    count: usize,
+    item: Option<T>,
+) -> Result<(), SlateDBError>
+    requires within { chunk < length list.old }
+    requires part { IfSome (slice_get list.old chunk) (λ c. place + count ≤ length c) }
+    ensures ok { OnOk result (IfSome (slice_get list.old chunk)
+        (λ c. list.new ≡ slice_set list.old chunk (spliced place count item c))) }
+    ensures err { OnErr result (list.new ≡ list.old) }
+    ensures memory { IsOkUnless result SlateDBError.Memory }
+{
+    let mut chunks = list.take().into_vec();
+    let done = chunks[chunk].splice(place, count, item);
+    *list = ListOf::from_vec(chunks);
+    done
 }
 
 // Changes the tree of the segment at this place.
@@ -267,7 +313,8 @@ fn remove_items<T: Drop>(items: &mut Vec<T>, place: usize, count: usize)
     }
 }
 
-fn copies<T: Copies + Drop>(alloc: Global, items: &[T]) -> Result<Vec<T>, AllocError>
+/// Copies of the items.
+pub(crate) fn copies<T: Copies + Drop>(alloc: Global, items: &[T]) -> Result<Vec<T>, AllocError>
     ensures { IfOk result (λ copies. copies.items ≡ items.now) }
 {
     let mut copies = Vec::new(alloc);

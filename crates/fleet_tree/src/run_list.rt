@@ -1,40 +1,48 @@
 //! The runs of a tree.
 
-ghost use Rattle.std.specs.Prelude.{◌≡◌, ◌↔◌, ◌==◌, ◌≤◌, ◌+◌, ◌++◌, ◌&&◌, ◌||◌, [], ◌∷◌, true, find, length, not, slice_get, take_while, IsTrue, OnOk, OnErr, IfOk, IsOkUnless};
-ghost use Rattle.std.specs.List.{position_or_len};
+ghost use Rattle.std.specs.Prelude.{◌≡◌, ◌↔◌, ◌==◌, ◌<◌, ◌≤◌, ◌+◌, ◌-◌, ◌^◌, ◌++◌, ◌&&◌, ◌||◌, [], ◌∷◌, true, drop, find, length, nat_lt, not, option_to_list, take_while, slice_get, take, IsTrue, OnOk, OnErr, IfOk, IsOkUnless};
+ghost use Rattle.std.specs.List.{list_all, position_or_len};
 ghost use Rattle.std.specs.Option.{option_copied};
 ghost use Rattle.std.specs.Cmp.Lexicographic.{pointwise, lists_per, lists_equiv};
-ghost use Rattle.fleet_tree.specs.Falling.{are_falling, fits_between, is_above_first, is_below_last};
+ghost use Rattle.fleet_tree.specs.Falling.{are_falling, fits_between, is_above_first, is_above_one, is_below_last, is_below_one};
 ghost use Rattle.fleet_tree.specs.Lists.{spliced};
 ghost use Rattle.fleet_tree.specs.contracts.run.SortedRunEq.TheImpl.Laws as run_equiv;
 ghost use Rattle.fleet_tree.specs.contracts.run.SortedRunPartialEq.TheImpl.Laws as run_eq;
 
-use crate::{SharedList, SortedRun};
+use crate::items::are_equal;
+use crate::run_chunks::{
+    RunChunks, last_run, place_in_chunks, push_run, run_at, runs_from, splice_runs,
+};
+use crate::{Items, SortedRun};
 use fleet_rows::{Copies, SlateDBError};
 use std::alloc::{AllocError, Global};
 use std::marker::Model;
 
-/// The runs of a tree, or some of them. Contracts see the list of the runs. A copy shares the runs
-/// until one of the two lists changes.
+/// The runs of a tree, or some of them. Contracts see the list of the runs. They stand in chunks,
+/// which copies share, so a change copies one chunk and no run of the others.
 ///
-/// The ids of a tree's runs fall. A list knows whether its ids do, and then looks for a run by
-/// halves: among m runs this takes a time of the order of log m.
+/// The ids of a tree's runs fall. A list knows whether its ids do, and then looks for a run chunk by
+/// chunk, and by halves in its chunk.
 #[derive(Debug, Drop)]
 pub struct RunList {
-    runs: SharedList<SortedRun>,
+    alloc: Global,
+    chunks: RunChunks,
+    count: u64,
     falls: bool,
 }
 
 impl Model for RunList {
-    ghost use Rattle.std.specs.Prelude.{◌≡◌, List};
+    ghost use Rattle.std.specs.Prelude.{◌≡◌, List, length};
     ghost use Rattle.fleet_tree.specs.Falling.{are_falling};
+    ghost use Rattle.fleet_tree.specs.Lists.{joined};
     ghost use Rattle.fleet_tree.specs.declared.run.SortedRun.{SortedRun};
 
     ghost Value = { List SortedRun };
 
-    ghost view = { λ l. l.runs };
+    ghost view = { λ l. joined l.chunks };
 
-    ghost invariant = { λ l. l.falls ≡ are_falling l.runs };
+    ghost invariant = { λ l. (l.count ≡ length (joined l.chunks))
+        × (l.falls ≡ are_falling (joined l.chunks)) };
 }
 
 impl RunList {
@@ -43,53 +51,62 @@ impl RunList {
         ensures { result ≡ [] }
     {
         RunList {
-            runs: SharedList::new(alloc),
+            alloc,
+            chunks: RunChunks::new(alloc),
+            count: 0,
             falls: true,
         }
     }
 
-    /// A list that takes over these runs. No other list shares them yet.
+    /// A list of these runs.
     pub fn from_vec(alloc: Global, runs: Vec<SortedRun>) -> Result<RunList, SlateDBError>
         ensures list { IfOk result (λ list. list ≡ runs.items) }
         ensures memory { IsOkUnless result SlateDBError.Memory }
     {
-        let shared = SharedList::from_vec(alloc, runs)?;
-        let falls = are_falling(shared.as_slice());
-        Ok(RunList {
-            runs: shared,
-            falls,
-        })
+        let mut list = RunList::new(alloc);
+        'runs: for run in runs {
+            list.push(run)?;
+        }
+        Ok(list)
     }
 
     /// The number of runs.
     pub fn len(&self) -> u64
         ensures { result ≡ length self.now }
     {
-        self.runs.len()
+        self.count
     }
 
     /// Whether the list has no runs.
     pub fn is_empty(&self) -> bool
         ensures { IsTrue result ↔ (self.now ≡ []) }
     {
-        self.runs.is_empty()
+        self.count == 0
     }
 
     /// The run at this place, counted from 0.
     pub fn get(&self, place: u64) -> Option<&SortedRun>
         ensures { option_copied result ≡ slice_get self.now place }
     {
-        self.runs.get(place)
+        run_at(self.chunks.as_slice(), place as usize)
     }
 
-    /// The runs as a slice.
-    pub fn as_slice(&self) -> &[SortedRun]
-        ensures { result.now ≡ self.now }
+    /// The runs, in order.
+    pub fn iter(&self) -> Runs<'_>
+        ensures { result ≡ self.now }
     {
-        self.runs.as_slice()
+        Items::of_chunks(&[], self.chunks.as_slice())
     }
 
-    /// The first run with this id, if one has it. Where the ids fall, it is looked for by halves.
+    /// The runs from this place on, counted from 0.
+    pub fn iter_from(&self, place: usize) -> Runs<'_>
+        ensures { result ≡ drop place self.now }
+    {
+        runs_from(self.chunks.as_slice(), place)
+    }
+
+    /// The first run with this id, if one has it. Where the ids fall, it is looked for as
+    /// `place_of` does.
     pub fn with_id(&self, id: u32) -> Option<&SortedRun>
         ensures { option_copied result ≡ find (λ run. run.id == id) self.now }
     {
@@ -97,15 +114,35 @@ impl RunList {
     }
 
     /// The place of the first run with this id, counted from 0, or the number of runs if none has
-    /// it. Where the ids fall, it is looked for by halves.
+    /// it. Where the ids fall, one run of each chunk is looked at, and one chunk by halves.
     pub fn place_of(&self, id: u32) -> usize
         ensures place { result ≡ position_or_len (λ run. run.id == id) self.now }
         ensures within { result ≤ length self.now }
     {
+        self.know_len();
         if self.falls {
-            place_by_halves(self.runs.as_slice(), id)
+            place_in_chunks(self.chunks.as_slice(), id)
         } else {
-            runs_before(self.runs.as_slice(), id)
+            runs_before(self.iter(), id)
+        }
+    }
+
+    /// Where a run with this id comes: the number of runs before the first one with a lower id.
+    pub fn place_for(&self, id: u32) -> usize
+        ensures place { result ≡ length (take_while (λ run. not (nat_lt run.id id)) self.now) }
+        ensures within { result ≤ length self.now }
+    {
+        self.know_len();
+        runs_not_below(self.iter(), id)
+    }
+
+    /// Whether all ids are below this one. Where they fall, the first run tells.
+    pub fn are_below(&self, id: u32) -> bool
+        ensures { result ≡ list_all (λ run. nat_lt run.id id) self.now }
+    {
+        match self.iter().next() {
+            Some(first) if self.falls => first.id < id,
+            _ => are_all_below(self.iter(), id),
         }
     }
 
@@ -115,10 +152,21 @@ impl RunList {
         ensures err { OnErr result (self.new ≡ self.old) }
         ensures memory { IsOkUnless result SlateDBError.Memory }
     {
-        let falls = are_falling_with(&run, self.runs.as_slice(), self.falls);
-        self.runs.push(run)?;
+        let Some(count) = self.count.checked_add(1) else {
+            return Err(SlateDBError::Memory);
+        };
+        let falls = self.falls_with(&run);
+        push_run(self.alloc, &mut self.chunks, run)?;
+        self.count = count;
         self.falls = falls;
         Ok(())
+    }
+
+    // Whether the ids fall with one more run at the end.
+    fn falls_with(&self, run: &SortedRun) -> bool
+        ensures { result ≡ are_falling (self.now ++ run.now ∷ []) }
+    {
+        self.falls && is_below(run, last_run(self.chunks.as_slice()))
     }
 
     /// Whether the ids fall, and still do after `splice` of this part and this run.
@@ -127,12 +175,44 @@ impl RunList {
         ensures { result ≡ (are_falling self.now
             && fits_between self.now place (place + count) (option_copied run.entry)) }
     {
-        self.falls && fits_between(self.runs.as_slice(), place, place + count, run)
+        self.know_len();
+        match run {
+            Some(run) => self.falls && self.is_between(run, place, place + count),
+            None => self.falls,
+        }
+    }
+
+    // Whether a run is below the one before `place`, and above the one at `end`.
+    fn is_between(&self, run: &SortedRun, place: usize, end: usize) -> bool
+        requires { place ≤ length self.now }
+        ensures { result ≡ (is_below_last run.now (take place self.now)
+            && is_above_first run.now (drop end self.now)) }
+    {
+        is_below(run, self.before(place)) && is_above(run, self.get(end as u64))
+    }
+
+    // The number of runs is a number of 64 bits.
+    fn know_len(&self)
+        ensures { length self.now < 2 ^ 64 }
+    {
+        let _ = self.len();
+    }
+
+    // The run before this place, if there is one.
+    fn before(&self, place: usize) -> Option<&SortedRun>
+        requires { place ≤ length self.now }
+        ensures { option_copied result
+            ≡ slice_get (take place self.now) (length (take place self.now) - 1) }
+    {
+        match place.checked_sub(1) {
+            Some(last) => self.get(last as u64),
+            None => None,
+        }
     }
 
     /// Takes out the `count` runs from a place on, counted from 0, and puts a run there if one is
-    /// given. If no other list shares the runs, the later ones are moved, and none is copied. If out
-    /// of memory, the given run is dropped.
+    /// given. If no other list shares the runs, and these lie in one chunk, no run is copied, and
+    /// the later ones of the chunk alone are moved. If out of memory, the given run is dropped.
     pub fn splice(
         &mut self,
         place: usize,
@@ -144,9 +224,12 @@ impl RunList {
         ensures err { OnErr result (self.new ≡ self.old) }
         ensures memory { IsOkUnless result SlateDBError.Memory }
     {
+        self.know_len();
+        let left = count_with(self.count - count as u64, &run)?;
         let falls = self.fits(place, count, run.as_ref());
-        self.runs.splice(place, count, run)?;
-        self.falls = fall_still(falls, self.runs.as_slice());
+        splice_runs(self.alloc, &mut self.chunks, place, count, run)?;
+        self.count = left;
+        self.falls = fall_still(falls, Items::of_chunks(&[], self.chunks.as_slice()));
         Ok(())
     }
 
@@ -159,73 +242,70 @@ impl RunList {
     }
 }
 
+/// An iterator over runs.
+pub type Runs<'a> = Items<'a, SortedRun>;
+
+// The number of runs with one more, if one is given. No memory has room for 2^64 runs.
+fn count_with(count: u64, run: &Option<SortedRun>) -> Result<u64, SlateDBError>
+    ensures ok { IfOk result (λ with_run. with_run ≡ count + length (option_to_list run.now)) }
+    ensures memory { IsOkUnless result SlateDBError.Memory }
+{
+    if run.is_none() {
+        return Ok(count);
+    }
+    match count.checked_add(1) {
+        Some(with_run) => Ok(with_run),
+        None => Err(SlateDBError::Memory),
+    }
+}
+
 // Whether the ids of the runs fall strictly.
-fn are_falling(runs: &[SortedRun]) -> bool
-    ensures { result ≡ are_falling runs.now }
+fn are_falling(runs: Runs<'_>) -> bool
+    ensures { result ≡ are_falling runs.entry }
 {
     let mut rest = runs;
-    'runs: while !rest.is_empty() {
-        if !is_above_first(&rest[0], &rest[1..]) {
+    let Some(first) = rest.next() else {
+        return true;
+    };
+    let mut above = first;
+    'runs: for run in rest {
+        if above.id <= run.id {
             return false;
         }
-        rest = &rest[1..];
+        above = run;
     }
     true
 }
 
-// Whether the ids of the runs fall strictly with one more run at the end. `falls` says whether they
-// do without it.
-fn are_falling_with(run: &SortedRun, runs: &[SortedRun], falls: bool) -> bool
-    requires { falls ≡ are_falling runs.now }
-    ensures { result ≡ are_falling (runs.now ++ run.now ∷ []) }
+// Whether a run has a lower id than the one before it, if there is one.
+fn is_below(run: &SortedRun, before: Option<&SortedRun>) -> bool
+    ensures { result ≡ is_below_one run.now (option_copied before.entry) }
 {
-    match runs.last() {
-        Some(last) => falls && run.id < last.id,
+    match before {
+        Some(last) => run.id < last.id,
         None => true,
     }
 }
 
-// Whether the first of these runs has a lower id than the given run, or there is none.
-fn is_above_first(run: &SortedRun, runs: &[SortedRun]) -> bool
-    ensures { result ≡ is_above_first run.now runs.now }
+// Whether a run has a higher id than the one after it, if there is one.
+fn is_above(run: &SortedRun, after: Option<&SortedRun>) -> bool
+    ensures { result ≡ is_above_one run.now (option_copied after.entry) }
 {
-    match runs.first() {
+    match after {
         Some(next) => next.id < run.id,
         None => true,
     }
 }
 
 // Whether the ids of the runs fall, if that is not known yet.
-fn fall_still(is_known: bool, runs: &[SortedRun]) -> bool
-    ensures { result ≡ (is_known || are_falling runs.now) }
+fn fall_still(is_known: bool, runs: Runs<'_>) -> bool
+    ensures { result ≡ (is_known || are_falling runs.entry) }
 {
     is_known || are_falling(runs)
 }
 
-// Whether a run, if one is given, is below the run before `start`, and above the one at `end`.
-fn fits_between(runs: &[SortedRun], start: usize, end: usize, run: Option<&SortedRun>) -> bool
-    requires start { start ≤ end }
-    requires end { end ≤ length runs.now }
-    ensures { result ≡ fits_between runs.now start end (option_copied run.entry) }
-{
-    match run {
-        Some(run) => is_below_last(run, &runs[..start]) && is_above_first(run, &runs[end..]),
-        None => true,
-    }
-}
-
-// Whether the last of these runs has a higher id than the given run, or there is none.
-fn is_below_last(run: &SortedRun, runs: &[SortedRun]) -> bool
-    ensures { result ≡ is_below_last run.now runs.now }
-{
-    match runs.last() {
-        Some(last) => run.id < last.id,
-        None => true,
-    }
-}
-
-// The place of the run with this id, or the number of runs if none has it, where the ids fall.
-fn place_by_halves(runs: &[SortedRun], id: u32) -> usize
+/// The place of the run with this id, or the number of runs if none has it, where the ids fall.
+pub(crate) fn place_by_halves(runs: &[SortedRun], id: u32) -> usize
     requires { are_falling runs.now ≡ true }
     ensures { result ≡ position_or_len (λ run. run.id == id) runs.now }
 {
@@ -235,11 +315,47 @@ fn place_by_halves(runs: &[SortedRun], id: u32) -> usize
     }
 }
 
-// The number of runs before the first one with this id.
-fn runs_before(runs: &[SortedRun], id: u32) -> usize
-    ensures { result ≡ length (take_while (λ run. not (run.id == id)) runs.now) }
+// Whether all runs have ids below this one. Each is looked at.
+fn are_all_below(runs: Runs<'_>, id: u32) -> bool
+    ensures { result ≡ list_all (λ run. nat_lt run.id id) runs.entry }
 {
-    runs.iter().take_while(|run| run.id != id).count()
+    'runs: for run in runs {
+        if id <= run.id {
+            return false;
+        }
+    }
+    true
+}
+
+// The number of runs before the first one with a lower id.
+fn runs_not_below(runs: Runs<'_>, id: u32) -> usize
+    requires { length runs < 2 ^ 64 }
+    ensures place { result ≡ length (take_while (λ run. not (nat_lt run.id id)) runs.entry) }
+    ensures within { result ≤ length runs.entry }
+{
+    let mut count = 0;
+    'runs: for run in runs {
+        if run.id < id {
+            return count;
+        }
+        count += 1;
+    }
+    count
+}
+
+// The number of runs before the first one with this id.
+fn runs_before(runs: Runs<'_>, id: u32) -> usize
+    requires { length runs < 2 ^ 64 }
+    ensures { result ≡ position_or_len (λ run. run.id == id) runs.entry }
+{
+    let mut before = 0;
+    'runs: for run in runs {
+        if run.id == id {
+            return before;
+        }
+        before += 1;
+    }
+    before
 }
 
 impl Clone for RunList {
@@ -247,7 +363,9 @@ impl Clone for RunList {
 
     fn clone(&self) -> Result<RunList, AllocError> {
         Ok(RunList {
-            runs: Clone::clone(&self.runs)?,
+            alloc: self.alloc,
+            chunks: Clone::clone(&self.chunks)?,
+            count: self.count,
             falls: self.falls,
         })
     }
@@ -265,7 +383,7 @@ impl PartialEq for RunList {
     ghost laws = { lists_per run_eq.laws-law };
 
     fn eq(&self, other: &Self) -> bool {
-        self.as_slice() == other.as_slice()
+        are_equal(self.iter(), other.iter())
     }
 }
 

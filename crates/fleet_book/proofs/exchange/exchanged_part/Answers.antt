@@ -13,7 +13,7 @@ pub returns-clause-runs : goal.returns-clause-runs
 returns-clause-runs c =
     let named = c.after_flushes-named.result.now in
     let front = c.if-not-are_in_front.ensures
-    ∙ ap (λ (runs : List SortedRun). is_some (after_front (map name_of named) (map (λ run. Run run.id) runs))) (c.behind-rest.ensures ∙ ap (λ runs. drop c.first_place-place.result runs) c.as_slice.ensures) in
+    ∙ ap (λ (runs : List SortedRun). is_some (after_front (map name_of named) (map (λ run. Run run.id) runs))) c.iter_from.ensures in
     exchanged_runs c.args.sources.now named
     (λ id. same_runs c.args.sources.now id ∙ ap (λ sources. is_named sources (Run id)) (sym c.after_flushes-named.ensures))
     c.args.runs.now c.first_place-place.result (option_copied c.args.output) (sym c.if-not-fits.ensures) front

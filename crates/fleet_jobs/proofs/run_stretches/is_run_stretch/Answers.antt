@@ -8,7 +8,7 @@ pub returns-in-Some-maybe_unwrap_sorted_run : goal.returns-in-Some-maybe_unwrap_
 returns-in-Some-maybe_unwrap_sorted_run c =
     let first = ap option_copied (sym c.in-Some.is) ∙ c.first.ensures.value in
     c.are_among.ensures
-    ∙ ap is_some (from_first c.args.sources.now c.in-Some.first.now c.in-Some-maybe_unwrap_sorted_run.id c.place_of.result c.args.runs.now c.runs_from.result.now first (sym c.in-Some-maybe_unwrap_sorted_run.is ∙ c.maybe_unwrap_sorted_run.ensures) c.place_of.ensures.place c.runs_from.ensures)
+    ∙ ap is_some (from_first c.args.sources.now c.in-Some.first.now c.in-Some-maybe_unwrap_sorted_run.id c.place_of.result c.args.runs.now c.iter_from.result first (sym c.in-Some-maybe_unwrap_sorted_run.is ∙ c.maybe_unwrap_sorted_run.ensures) c.place_of.ensures.place c.iter_from.ensures)
 
 pub returns-in-None : goal.returns-in-None
 returns-in-None c = not_from_flush c.args.sources.now c.in-Some.first.now c.args.runs.now (ap option_copied (sym c.in-Some.is) ∙ c.first.ensures.value) (sym c.in-None.is ∙ c.maybe_unwrap_sorted_run.ensures)

@@ -13,8 +13,8 @@ pub returns : goal.returns
 returns c =
     let sizes = λ (map : BTreeMap ℕ ℕ) (id : ℕ). get nat_cmp map id in
     on_ok c.add_runs.result
-    (λ (found : (id : ℕ) → sizes c.add_runs.new.sizes id ≡ option_or (sizes c.add_views.new.sizes id) (first_size id (tables_of_runs c.as_slice.result.now))).
+    (λ (found : (id : ℕ) → sizes c.add_runs.new.sizes id ≡ option_or (sizes c.add_views.new.sizes id) (first_size id (tables_of_runs c.iter-2.result))).
     λ id. then_first id (map (λ (view : View). view.sst) c.args.tree.now.l0) (tables_of_runs c.args.tree.now.compacted) (sizes c.args.sizes.now id) (sizes c.add_views.new.sizes id) (sizes c.add_runs.new.sizes id)
     (c.in_ok-add_views.ensures id ∙ ap (λ (views : List View). option_or (sizes c.args.sizes.now id) (first_size id (map (λ view. view.sst) views))) c.iter.ensures)
-    (found id ∙ ap (λ (runs : List SortedRun). option_or (sizes c.add_views.new.sizes id) (first_size id (tables_of_runs runs))) c.as_slice.ensures))
+    (found id ∙ ap (λ (runs : List SortedRun). option_or (sizes c.add_views.new.sizes id) (first_size id (tables_of_runs runs))) c.iter-2.ensures))
     c.add_runs.ensures

@@ -9,12 +9,12 @@ use Rattle.fleet_sched.proofs.defaults.full_spec.Goals as goal
 
 pub returns-in_default : goal.returns-in_default
 returns-in_default c =
-    let names = ap (λ (sources : List SourceId). map name_of sources) c.as_slice-2.ensures.value ∙ c.in_ok-sources.ensures ∙ ap names_of_runs c.as_slice.ensures in
-    into_named c.args.segment.now c.args.tree.now (map name_of c.as_slice-2.result.now) None names (sym c.in_default.is ∙ c.lowest_run.ensures)
+    let names = ap (λ (sources : List SourceId). map name_of sources) c.as_slice.ensures.value ∙ c.in_ok-sources.ensures ∙ ap names_of_runs c.iter.ensures in
+    into_named c.args.segment.now c.args.tree.now (map name_of c.as_slice.result.now) None names (sym c.in_default.is ∙ c.lowest_run.ensures)
 
 pub returns : goal.returns
 returns c =
-    let names = ap (λ (sources : List SourceId). map name_of sources) c.as_slice-2.ensures.value ∙ c.in_ok-sources.ensures ∙ ap names_of_runs c.as_slice.ensures in
+    let names = ap (λ (sources : List SourceId). map name_of sources) c.as_slice.ensures.value ∙ c.in_ok-sources.ensures ∙ ap names_of_runs c.iter.ensures in
     ap (λ (spec : CompactionSpec). Some (spec_of spec)) c.for_segment.ensures
     ∙ cc c.in_ok-segment.ensures.cases
-    ∙ into_named c.args.segment.now c.args.tree.now (map name_of c.as_slice-2.result.now) (Some c.in-Some.lowest) names (sym c.in-Some.is ∙ c.lowest_run.ensures)
+    ∙ into_named c.args.segment.now c.args.tree.now (map name_of c.as_slice.result.now) (Some c.in-Some.lowest) names (sym c.in-Some.is ∙ c.lowest_run.ensures)

@@ -22,5 +22,5 @@ returns c = λ handles flushes has. on_ok c.pick_flushes_into.result (λ same. f
     (subst (λ (names : List NodeName). SamePicks c.pick_flushes_into.new.self (pick_flushes_into c.args.options.now handles c.args.segment.now names (runs_of (tree_of (flushes c.args.segment.now) c.args.tree.now)) c.args.self.now))
     c.in_ok-sources.ensures
     (subst (λ (runs : Tree). SamePicks c.pick_flushes_into.new.self (pick_flushes_into c.args.options.now handles c.args.segment.now (map name_of c.in_ok-sources.sources.items) runs c.args.self.now))
-    (ap (map (run_node (flushes c.args.segment.now))) c.as_slice.ensures ∙ sym (runs_are (flushes c.args.segment.now) c.args.tree.now)) same)))
+    (ap (map (run_node (flushes c.args.segment.now))) c.iter.ensures ∙ sym (runs_are (flushes c.args.segment.now) c.args.tree.now)) same)))
     (c.pick_flushes_into.ensures handles (flushes c.args.segment.now) has)

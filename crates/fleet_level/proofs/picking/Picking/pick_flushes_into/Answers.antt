@@ -5,25 +5,23 @@ use Rattle.fleet_tree.specs.declared.run.SortedRun.{SortedRun}
 use Rattle.fleet_jobs.specs.Sources.{name_of}
 use Rattle.fleet_level.specs.Picks.{SamePicks}
 use Rattle.fleet_level.proofs.Picked.{into_fresh, into_newest}
-use Rattle.fleet_level.proofs.TreeParts.{on_ok, with_first}
+use Rattle.fleet_level.proofs.TreeParts.{on_ok}
 use Rattle.fleet_level.proofs.picking.Picking.pick_flushes_into.Goals as goal
 
 pub returns-then-run_size-options : goal.returns-then-run_size-options
 returns-then-run_size-options c = λ handles flushes has.
-    let first = with_first c.args.runs.now c.in-Some.run'.now c.in-Some.ensures.value in
     let names = map name_of c.args.flushes.items in
     on_ok c.pick_into_run.result (λ same.
-    subst (λ (runs : List SortedRun). SamePicks c.pick_into_run.new.self (pick_flushes_into c.args.options.now handles c.args.segment.now names (map (run_node flushes) runs) c.args.self.now)) (sym first.1)
-    (into_newest c.args.options.now handles c.args.segment.now names (run_node flushes c.in-Some.run'.now) (map (run_node flushes) first.0) c.run_size.result c.args.self.now c.pick_into_run.new.self
+    subst (λ (runs : List SortedRun). SamePicks c.pick_into_run.new.self (pick_flushes_into c.args.options.now handles c.args.segment.now names (map (run_node flushes) runs) c.args.self.now)) (sym c.in-Some.ensures.steps)
+    (into_newest c.args.options.now handles c.args.segment.now names (run_node flushes c.in-Some.run'.now) (map (run_node flushes) c.next.new.self) c.run_size.result c.args.self.now c.pick_into_run.new.self
     (c.run_size.ensures handles flushes has) (omega (arith, c.if-run_size-options.true, ap (λ (o : LevelOptions). o.base) c.options.view_is)) same))
     c.pick_into_run.ensures
 
 pub returns-else-run_size-options : goal.returns-else-run_size-options
 returns-else-run_size-options c = λ handles flushes has.
-    let first = with_first c.args.runs.now c.in-Some.run'.now c.in-Some.ensures.value in
     let names = map name_of c.args.flushes.items in
     on_ok c.add_fresh-else-run_size-options.result (λ same.
-    subst (λ (runs : List SortedRun). SamePicks c.add_fresh-else-run_size-options.new.self (pick_flushes_into c.args.options.now handles c.args.segment.now names (map (run_node flushes) runs) c.args.self.now)) (sym first.1)
-    (into_fresh c.args.options.now handles c.args.segment.now names (run_node flushes c.in-Some.run'.now) (map (run_node flushes) first.0) c.run_size.result c.args.self.now c.add_fresh-else-run_size-options.new.self
+    subst (λ (runs : List SortedRun). SamePicks c.add_fresh-else-run_size-options.new.self (pick_flushes_into c.args.options.now handles c.args.segment.now names (map (run_node flushes) runs) c.args.self.now)) (sym c.in-Some.ensures.steps)
+    (into_fresh c.args.options.now handles c.args.segment.now names (run_node flushes c.in-Some.run'.now) (map (run_node flushes) c.next.new.self) c.run_size.result c.args.self.now c.add_fresh-else-run_size-options.new.self
     (c.run_size.ensures handles flushes has) (omega (arith, c.if-run_size-options.false, ap (λ (o : LevelOptions). o.base) c.options.view_is)) same))
     c.add_fresh-else-run_size-options.ensures

@@ -17,6 +17,6 @@ returns c = λ handles flushes has.
     let first = pick_flushes o handles (segment_of flushes (segment, c.args.tree.now)) c.args.self.now in
     on_ok c.pick_runs.result (λ same.
     subst (λ (runs : Tree). SamePicks c.pick_runs.new.self (pick_runs o handles segment 0 runs first)) (sym (runs_are own c.args.tree.now))
-    (then_same (subst (λ (runs : List SortedRun). SamePicks c.pick_runs.new.self (pick_runs o handles segment 0 (map (run_node own) runs) mid)) c.as_slice.ensures same)
+    (then_same (subst (λ (runs : List SortedRun). SamePicks c.pick_runs.new.self (pick_runs o handles segment 0 (map (run_node own) runs) mid)) c.iter.ensures same)
     (runs_same o handles segment 0 (map (run_node own) c.args.tree.now.compacted) mid first (c.in_ok-pick_flushes.ensures handles flushes has))))
     (c.pick_runs.ensures handles own has)
