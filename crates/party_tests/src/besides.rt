@@ -119,8 +119,8 @@ pub(crate) fn start<S: Store>(alloc: Global, store: &mut S) -> Result<Coordinato
     Coordinator::start(alloc, store)
 }
 
-// A coordinator starts and polls much later.
-fn free_jobs<S: Store>(alloc: Global, store: &mut S) -> Result<PollReport, SlateDBError>
+/// A coordinator starts and polls much later.
+pub(crate) fn free_jobs<S: Store>(alloc: Global, store: &mut S) -> Result<PollReport, SlateDBError>
     requires { MayStart (S.view store.old) }
     ensures { MayStart (S.view store.new) }
 {

@@ -2,14 +2,14 @@
 ghost use Rattle.std.specs.Prelude.{◌≡◌};
 ghost use Rattle.step_model.specs.Views.{SameCaller};
 ghost use Rattle.fleet_lock.specs.Locks.{table_of};
-ghost use Rattle.party_tests.specs.Callers.{IsHand};
+ghost use Rattle.party_tests.specs.Callers.{IsHand, MayHire};
 ghost use Rattle.party_tests.specs.Passes.{Leads, MayLend, Serves, folds_append};
 ghost use Rattle.party_tests.specs.Starts.{MayStart};
 
-use crate::besides::start;
-use crate::passes::{join_to, lead, serve, share};
+use crate::besides::{free_jobs, start};
+use crate::passes::{join_to, lead, led, serve, served, share};
 use crate::sites::{Site, small};
-use crate::work::{beat, claim, hire, job, release};
+use crate::work::{Task, beat, claim, hire, job, release, work};
 use fleet_fold::AppendOperator;
 use fleet_history::{ManifestChange, Party, StepList};
 use fleet_jobs::{CompactionStatus, Release};
@@ -307,4 +307,33 @@ fn a_worker_and_a_coordinator_call_at_once(rt: HostRuntime) {
     let records = store.records().expect(&rt, "records");
     let status = records.compactions().get(&job(1)).map(|job| job.status());
     assert!(rt; status == Some(CompactionStatus::Scheduled));
+}
+
+// The worker 1 claims job 1 and ends it.
+fn ends<R: Threads + Sync, S: Store>(
+    rt: &R,
+    alloc: Global,
+    store: &mut S,
+) -> Result<bool, SlateDBError>
+    requires { MayHire (S.view store.old) 1 }
+{
+    let mut worker = hire(alloc, store, 1, Release::Two);
+    let claimed = claim(store, &mut worker, 1, 1)?;
+    let ended = work(rt, store, &AppendOperator, &mut worker, 1, 1, Task::Finish)?;
+    Ok(claimed && ended)
+}
+
+#[test]
+fn passes_tell_claims_and_commits(rt: HostRuntime) {
+    let alloc: Global = rt.alloc();
+    let Site { store, .. } = small(alloc).expect(&rt, "a job");
+    let Ok((shared, mut first)) = share(alloc, store, &AppendOperator, 3) else {
+        return;
+    };
+    let mut one = lead(&shared, &mut first, 1);
+    let mut two = serve(&shared, &mut first, 1);
+    let ended = ends(&rt, alloc, &mut served(&shared, &rt, &mut two, 1)).expect(&rt, "a step");
+    assert!(rt; ended && two.claims() == 1 && two.commits() == 0);
+    free_jobs(alloc, &mut led(&shared, &rt, &mut one)).expect(&rt, "a step");
+    assert!(rt; one.claims() == 0 && one.commits() == 1);
 }
