@@ -20,8 +20,11 @@ use fleet_tree::{
 };
 use std::alloc::{AllocError, Global};
 
-/// Finishes a job, which made this run unless it was a drain. Lists of runs that nothing else shares
-/// are changed in place. If out of memory, nothing changes.
+/// Finishes a job, which made this run unless it was a drain. If out of memory, nothing changes.
+///
+/// If one tree alone has the job's segment, the ids of its runs fall before and after, and the
+/// source runs stand one after the other, these are exchanged in its list, as `RunList::splice`
+/// does it. Else its list of runs is made anew.
 pub(crate) fn finish_core(
     alloc: Global,
     job: &Compaction,

@@ -39,7 +39,8 @@ use std::alloc::{AllocError, Global};
 /// For n sources, m nodes in the job's tree and h nodes in the set, this takes a time of the order
 /// of (n + m) log (n + m + h), besides a look at each segment, a look at each run if no run is a
 /// source, and what the scheduler takes. If the sources are runs of the tree, one after the other,
-/// and the ids of its runs fall, it is n log (n + m + h) in place of that.
+/// and the ids of its runs fall, it is n log (n + m + h) in place of that, and a look at each chunk
+/// of runs.
 pub fn submit_gate(
     alloc: Global,
     scheduler: &(dyn CompactionScheduler + Send + Sync),

@@ -10,8 +10,8 @@ use fleet_tree::{RunList, Runs};
 
 /// Whether the sources are among the runs, one after the other.
 ///
-/// They are looked for from the first run on that is the first source. So for n sources that are
-/// among m runs whose ids fall, this takes a time of the order of n + log m.
+/// They are looked for from the first run on that is the first source, which `RunList::place_of`
+/// finds. If n sources are there, n runs are looked at after that.
 pub fn is_run_stretch(sources: &[SourceId], runs: &RunList) -> bool
     ensures { result ≡ is_some
         (older_nodes (map name_of sources.now) (map (λ run. Run run.id) runs.now)) }

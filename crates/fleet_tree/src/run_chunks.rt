@@ -165,8 +165,8 @@ fn last_with_room(chunks: &[RunChunk]) -> Option<Spot>
 }
 
 /// Takes out the `count` runs from a place on, counted from 0, and puts a run there if one is given.
-/// If all lie in one chunk, that chunk alone changes, and the later chunks stay where they are. If
-/// out of memory, the given run is dropped.
+/// If all lie in one chunk, and `is_in_chunk` lets it have the exchange, that chunk alone changes,
+/// and the later chunks stay where they are. If out of memory, the given run is dropped.
 pub(crate) fn splice_runs(
     alloc: Global,
     chunks: &mut RunChunks,

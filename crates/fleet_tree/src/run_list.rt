@@ -19,10 +19,10 @@ use std::alloc::{AllocError, Global};
 use std::marker::Model;
 
 /// The runs of a tree, or some of them. Contracts see the list of the runs. They stand in chunks,
-/// which copies share, so a change copies one chunk and no run of the others.
+/// which copies share, so a change copies runs of at most two chunks.
 ///
-/// The ids of a tree's runs fall. A list knows whether its ids do, and then looks for a run chunk by
-/// chunk, and by halves in its chunk.
+/// The ids of a tree's runs fall. A list knows whether its ids do. Then it passes over each chunk
+/// whose last id is above the one that it looks for, and searches the others by halves.
 #[derive(Debug, Drop)]
 pub struct RunList {
     alloc: Global,
@@ -114,7 +114,8 @@ impl RunList {
     }
 
     /// The place of the first run with this id, counted from 0, or the number of runs if none has
-    /// it. Where the ids fall, one run of each chunk is looked at, and one chunk by halves.
+    /// it. Where the ids fall, one run of each chunk before its own is looked at, and its own chunk
+    /// is searched by halves. If no run has the id, all chunks with lower ids are searched so.
     pub fn place_of(&self, id: u32) -> usize
         ensures place { result ≡ position_or_len (λ run. run.id == id) self.now }
         ensures within { result ≤ length self.now }
@@ -211,8 +212,11 @@ impl RunList {
     }
 
     /// Takes out the `count` runs from a place on, counted from 0, and puts a run there if one is
-    /// given. If no other list shares the runs, and these lie in one chunk, no run is copied, and
-    /// the later ones of the chunk alone are moved. If out of memory, the given run is dropped.
+    /// given. If out of memory, the given run is dropped.
+    ///
+    /// Runs of one chunk are exchanged in it, unless it would be empty, or is full and none is taken
+    /// out. Where no other list shares that chunk, no run is copied then, and its later runs alone
+    /// are moved. Else the list of the chunks is made anew, and runs of at most two are copied.
     pub fn splice(
         &mut self,
         place: usize,

@@ -63,8 +63,8 @@ impl LsmTreeState {
         Ok(())
     }
 
-    /// Makes a change. If no other tree shares the runs, none of them is copied. If out of
-    /// memory, nothing changes.
+    /// Makes a change. The runs are exchanged as `RunList::splice` does it. If out of memory,
+    /// nothing changes.
     pub fn apply(&mut self, change: TreeChange) -> Result<(), SlateDBError>
         requires { change.place + change.count ≤ length self.old.compacted }
         ensures ok { OnOk result (self.new ≡ changed_tree change self.old) }

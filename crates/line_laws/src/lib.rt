@@ -100,11 +100,11 @@ pub fn causes_decide()
     ensures { CausesDecide }
 {}
 
-/// A refused line leaves manifest, records, tables, names and parties as they were, but for four
-/// refusals. A fault leaves the calls up to the struck one, and the coordinator or worker that
-/// called is no longer live. A fenced coordinator is no longer live. An operator's refusal gives
-/// the attempt back, and its worker runs it no more. A finish of an attempt that is not live has
-/// put tables, and its worker runs it no more.
+/// A refused line that is no settle line, and so each refused step of one, leaves manifest, records,
+/// tables, names and parties as they were, but for four refusals. A fault leaves the calls up to the
+/// struck one, and the coordinator or worker that called is no longer live. A fenced coordinator is
+/// no longer live. An operator's refusal gives the attempt back, and its worker runs it no more. A
+/// finish of an attempt that is not live has put tables, and its worker runs it no more.
 pub fn refusals_leave()
     ensures { RefusalsLeave }
 {}
@@ -210,9 +210,9 @@ pub fn outputs_are_whole()
     ensures { OutputsAreWhole }
 {}
 
-/// What a worker runs changes by its own lines alone. Each attempt that it runs after a line went
-/// on from before, with the same number, source tables, settings and ranges and with all tables
-/// that were noted, or the line is the worker's claim and began it.
+/// Each attempt that a worker runs after a line went on from before, with the same number, source
+/// tables, settings and ranges and with all tables that were noted, or the line is the worker's
+/// claim and began it.
 pub fn attempts_go_on()
     ensures { AttemptsGoOn }
 {}
