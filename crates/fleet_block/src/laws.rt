@@ -9,7 +9,7 @@ pub fn rows_have_encoded_sizes()
     ensures { RowsHaveEncodedSizes }
 {}
 
-/// The rows of a table stand in its bytes, and `decoded` reads them back. Of bytes that are no
+/// The rows of a table stand in its bytes, and `decoded_rows` reads them back. Of bytes that are no
 /// table's nothing is stated.
 pub fn bytes_are_decoded()
     ensures { BytesAreDecoded }

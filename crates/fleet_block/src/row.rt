@@ -33,7 +33,7 @@ pub fn row_at(
 }
 
 /// The row that `row_at` gives. A key that shares bytes with the first key is put into memory that
-/// it shares with other keys.
+/// it shares with other keys: the room that is left in `keys`, or new room.
 #[inline(always)]
 pub fn packed_row_at(
     alloc: Global,

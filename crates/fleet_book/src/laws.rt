@@ -19,7 +19,8 @@ pub fn moves_are_the_models()
 {}
 
 /// `finish_compaction` of the run that `trivial_move_output` gives changes the trees as the model's
-/// move does.
+/// move does, if the prefixes of the segments rise, the job names its flushes before its runs, and
+/// the tables have the first keys that their descriptions say.
 pub fn trivial_moves_are_the_models()
     ensures { TrivialMovesAreTheModels }
 {}
@@ -29,8 +30,8 @@ pub fn finished_runs_stay()
     ensures { FinishedRunsStay }
 {}
 
-/// After `finish_compaction` and `finish_drain_compaction`, the flushes that stay are those that are
-/// newer than the watermark.
+/// After `finish_compaction` and `finish_drain_compaction`, the flushes that stay are those that
+/// are newer than the watermark, if all were newer than the watermark before.
 pub fn finished_flushes_stay()
     ensures { FinishedFlushesStay }
 {}

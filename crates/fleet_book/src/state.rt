@@ -79,8 +79,8 @@ impl CompactorState {
 
     /// Brings a view up to date that showed this state when each job but the one with this id was
     /// as it is now. The view gets the manifest, and a copy of this job. So the other jobs are not
-    /// copied again. A job that is over now stays in the view, where it counts for nothing. If out
-    /// of memory, the view has to be given up.
+    /// copied again, if the state has the job. A job that is over now stays in the view, where it
+    /// counts for nothing. If out of memory, the view has to be given up.
     pub fn refresh(
         &self,
         alloc: Global,
@@ -116,8 +116,9 @@ impl CompactorState {
         Ok(())
     }
 
-    /// Takes over a stored manifest. Each tree keeps its own runs and watermark, and takes the
-    /// stored flushes that are newer. If out of memory, nothing changes.
+    /// Takes over a stored manifest. Each tree that it has keeps its own runs and watermark, and
+    /// takes the stored flushes that are newer; a tree that it lacks is dropped. All else is the
+    /// stored one's. If out of memory, nothing changes.
     pub fn merge_remote_manifest(
         &mut self,
         alloc: Global,

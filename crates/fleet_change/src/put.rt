@@ -31,7 +31,7 @@ fn trimmed(poll: &Poll, epoch: u64) -> Result<Compactions, SlateDBError>
 }
 
 /// The put by which the poll records what it did, or None if it changed no job. The epoch is that
-/// of the records that were got.
+/// of the records that were got. Of the jobs that are over only the last one stays.
 pub fn records_put(alloc: Global, poll: &Poll, epoch: u64) -> Result<Option<PollPut>, SlateDBError>
     ensures put { IfOk result (IsRecordsPut poll.now epoch) }
     ensures memory { IsOkUnless result SlateDBError.Memory }

@@ -86,7 +86,8 @@ fn all_claimed(
 }
 
 /// The records after the worker claimed these attempts at this moment. They are Running with the
-/// worker, and their attempt numbers are raised by one.
+/// worker, and their attempt numbers are raised by one. Of the jobs that are over only the last one
+/// stays.
 pub fn claimed_records(
     alloc: Global,
     records: &Compactions,

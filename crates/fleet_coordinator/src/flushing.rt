@@ -335,10 +335,12 @@ fn all_tries<S: Store>(
 /// tracked from this moment on; both are in milliseconds.
 ///
 /// A flush that breaks a rule is in no tree. After `Name`, `Segment` and `Order` no call was made.
-/// `Sequence`, `Floor` and `Tick` leave the table if an earlier try put it. `Conflict` means that 64
-/// puts of the manifest were refused in a row; it leaves the table, and `Memory` may. After
-/// `StoreFault` the table may be put, and the flush may have taken effect. A name whose table may
-/// be put must not be used again.
+/// `Sequence`, `Floor` and `Tick` leave the table if an earlier try put it. `Conflict` means that
+/// 64 puts of the manifest were refused in a row; it leaves the table. After `StoreFault` and after
+/// `Memory` the table may be put, and the flush may have taken effect. A name whose table may be
+/// put must not be used again.
+///
+/// A flush has at least one row, its rows are in bounds, and its name is one of flushes.
 pub fn flush<S: Store>(
     alloc: Global,
     store: &mut S,

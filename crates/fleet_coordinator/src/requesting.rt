@@ -91,9 +91,9 @@ fn try_request<S: Store>(
 /// it got. The answer is the ids, in the order of the specs. Without a spec nothing is put.
 ///
 /// `InvalidDBState` means that the store has no records, and `Conflict` that 64 puts were refused
-/// in a row. `InvalidCompaction` and `Generate` are refusals of the scheduler. After each of these,
-/// and after `Memory`, no job was added, and the ids that were drawn stay unused. After
-/// `StoreFault` all the jobs are stored, or none is.
+/// in a row. `InvalidCompaction` and `Generate` are refusals of the scheduler. After each of these
+/// no job was added, and the ids that were drawn stay unused. After `StoreFault` and after `Memory`
+/// all the jobs are stored, or none is.
 pub fn submit_request<S: Store>(
     alloc: Global,
     store: &mut S,

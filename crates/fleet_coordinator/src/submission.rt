@@ -150,8 +150,8 @@ fn try_submit<S: Store>(
 /// in the order of the specs. Without a spec nothing is put.
 ///
 /// `InvalidDBState` means that the store has no records, and `Conflict` that 64 puts were refused
-/// in a row. After either, and after `Memory`, no job was added, and the ids that were drawn stay
-/// unused. After `StoreFault` all the jobs are stored, or none is.
+/// in a row. After either no job was added, and the ids that were drawn stay unused. After
+/// `StoreFault` and after `Memory` all the jobs are stored, or none is.
 pub fn submit<S: Store>(
     alloc: Global,
     store: &mut S,

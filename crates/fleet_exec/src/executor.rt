@@ -45,7 +45,8 @@ impl Executor {
     }
 
     /// Starts a job, unless `stop` was called. A job without a context gets one, in which the keys
-    /// of its tables are planned into at most `max_subcompactions` ranges, where 0 counts as 1. If
+    /// of its tables are planned into at most `max_subcompactions` ranges, where 0 counts as 1.
+    /// These are fewer than 2^32. No active job has the id, and there is a context or a floor. If
     /// out of memory, the arguments are dropped.
     pub fn start_compaction_job(
         &mut self,

@@ -12,8 +12,9 @@ use fleet_rows::{RowEntry, SlateDBError};
 use std::alloc::Global;
 
 /// The next rows that a job makes of a range after its cursor: merged, folded and kept by
-/// retention. There are at most `rows` of them. Returns None if nothing is left. Sources are read
-/// from the cursor's key on, and no further than these rows need.
+/// retention. There are at most `rows` of them. Returns None if nothing is left. Of each source its
+/// first row in the range is read, and then the rows from the cursor's key on, no further than
+/// these rows need.
 pub fn next_table<O: MergeOperator>(
     alloc: Global,
     job: &RangeJob,

@@ -125,7 +125,8 @@ fn ended_records(
 }
 
 /// The put of the records that ends the job of the attempt with these tables, range by range. The
-/// job is Compacted, keeps the worker with this moment, and has no context.
+/// job is Compacted, keeps the worker with this moment, and has no context. Of the jobs that are
+/// over only the last one stays.
 pub fn finish_put(
     alloc: Global,
     got: &VersionedCompactions,

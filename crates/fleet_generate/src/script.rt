@@ -9,7 +9,8 @@ use crate::generator::Generator;
 use fleet_rows::SlateDBError;
 use std::alloc::Global;
 
-/// The text of a script of this many rounds. The number is the first state of the generator.
+/// The text of a script of this many rounds, at most 2,000. The number is the first state of the
+/// generator.
 pub fn make_script(alloc: Global, number: u64, rounds: u64) -> Result<Vec<u8>, SlateDBError>
     requires { rounds ≤ 2000 }
     ensures script { IfOk result

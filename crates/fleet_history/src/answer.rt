@@ -11,6 +11,6 @@ pub enum Answer {
     Conflict(u64),
     /// A fault struck the call, which changed nothing.
     Lost,
-    /// A fault struck the put, which took effect.
+    /// A fault struck the call. A put took effect; a get or a list changed nothing.
     Stands,
 }

@@ -29,8 +29,8 @@ pub(crate) fn compare(order: IterationOrder, row: &RowEntry, other: &RowEntry) -
     }
 }
 
-// Compares rows by falling key, and rows of one key by falling sequence. It stays out of line, so that
-// ascending merges need no room for it.
+// Compares rows by falling key, and rows of one key by falling sequence. It stays out of line, so
+// that ascending merges need no room for it.
 #[inline(never)]
 fn falling_order(row: &RowEntry, other: &RowEntry) -> Ordering
     ensures { result ≡ cmp_in in_order.Descending (row_of row.now) (row_of other.now) }
@@ -509,7 +509,8 @@ impl<T: RowEntryIterator> MergeIterator<T> {
 }
 
 impl<T: RowEntryIterator> MergeIterator<T> {
-    /// Whether the first row left has this key. False if no row is left.
+    /// Whether the first row left has this key, in a merge that is initialised and has not failed.
+    /// False if no row is left.
     #[inline]
     pub fn begins_with(&self, key: &[u8]) -> bool
         requires sound { IsSound T.sound T.state self.now }
@@ -520,7 +521,8 @@ impl<T: RowEntryIterator> MergeIterator<T> {
         self.heads.least_has(key)
     }
 
-    /// Drops the rows at the front that have this key, and counts none of them. It moves no row out.
+    /// Drops the rows at the front that have this key, and counts none of them. It moves no row
+    /// out.
     pub fn skip_key(&mut self, alloc: Global, key: &[u8]) -> Result<(), SlateDBError>
         requires { IsSound T.sound T.state self.old }
         ensures skip { SkipsKey key.now

@@ -22,7 +22,9 @@ pub fn moved_runs_are_the_models()
     ensures { MovedRunsAreTheModels }
 {}
 
-/// `trivial_move_output` gives a run exactly where the model can move the job.
+/// Where moves are allowed, `trivial_move_output` gives a run exactly if the model can move the
+/// job. The job is no drain and names its flushes before its runs, and the tables have the first
+/// and the last key that their descriptions say.
 pub fn movable_jobs_are_the_models()
     ensures { MovableJobsAreTheModels }
 {}

@@ -92,7 +92,7 @@ impl NodeSet {
         add_node(&mut self.nodes, &mut self.runs, &mut self.flushes, &node)
     }
 
-    /// Adds nodes, in their order.
+    /// Adds nodes, in their order. Out of memory, no clause says which of them were added.
     pub fn add_all(&mut self, nodes: &[SourceId]) -> Result<(), AllocError>
         ensures { OnOk result (self.new ≡ self.old ++ map name_of nodes.now) }
     {
@@ -102,7 +102,8 @@ impl NodeSet {
         Ok(())
     }
 
-    /// Adds the nodes that a job touches: its destination, if it has one, and its sources.
+    /// Adds the nodes that a job touches: its destination, if it has one, and its sources. Out of
+    /// memory, no clause says which of them were added.
     pub fn add_nodes_of(&mut self, spec: &CompactionSpec) -> Result<(), AllocError>
         ensures { OnOk result (self.new ≡ self.old ++ nodes_of (spec_of spec.now)) }
     {

@@ -15,7 +15,8 @@ pub struct LevelOptions {
     pub l0_trigger: u64,
     /// The greatest size of the newest run of a tree, in bytes. It is at least 1.
     pub base: u64,
-    /// How many times larger a run may be than the run before it. It is at least 2.
+    /// The limit of a run is so many times that of the run before it, and the oldest run has none.
+    /// It is at least 2.
     pub ratio: u64,
 }
 

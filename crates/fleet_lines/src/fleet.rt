@@ -90,10 +90,11 @@ impl Fleet {
         &self.store
     }
 
-    /// Runs the line with this number, counted from 1, and gives its reply. A fault, a party that is
-    /// not live and a refused step are replies. After `Memory` the line's calls may have been made in
-    /// part, and the party that made them may be no longer live. A finish makes the tables of its
-    /// ranges on the threads of `rt`.
+    /// Runs the line with this number, counted from 1, and gives its reply. A fault, a party that
+    /// is not live and a refused step are replies. After `Memory` the line's calls may have been
+    /// made in part, and the party that made them may be no longer live. A finish makes the tables
+    /// of its ranges as `fleet_exec::finish_ranges` does. The line is no settle line and no
+    /// together line.
     pub fn serve<R: Threads + Sync, O: MergeOperator>(
         &mut self,
         rt: &R,

@@ -29,9 +29,9 @@ fn ids_of(alloc: Global, tables: &[SsTableHandle]) -> Result<IdList, SlateDBErro
 
 /// Gets all source tables in order, each once, and makes of them all that is left of each range
 /// after the tables that are noted for it. It is cut into tables: each ends with the row with which
-/// its sum of `estimated_size` exceeds `size` bytes, or at the range's end. The ranges are made at
-/// once, each on a thread of its own where one can be had, and each table is reported to the gate
-/// when it is made. `tables` describe all source tables, in source order.
+/// its sum of `estimated_size` exceeds `size` bytes, or at the range's end. The ranges are made as
+/// `fleet_exec::finish_ranges` makes them, and each table is reported to the gate when it is made.
+/// `tables` describe all source tables, in source order.
 ///
 /// Where the operator refuses a fold, the error is its own, of the first range in which one is
 /// refused. The other errors are those of the gets, and `Memory`.

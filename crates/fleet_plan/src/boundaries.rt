@@ -17,11 +17,13 @@ use fleet_rows::SlateDBError;
 use std::alloc::{AllocError, Global};
 use std::ops::Bound;
 
-/// The ranges of keys for the subcompactions of a job. A cut is made at an anchor where the bytes
-/// of all anchors before it reach a threshold. The threshold begins with the target, and rises by
-/// the target at each cut. The target is the share of one range in all bytes, but at least
-/// `min_range_bytes`. A range may still have fewer bytes than the target: after an anchor of many
-/// bytes, the next threshold may be reached at once.
+/// The ranges of keys for the subcompactions of a job. The anchors are sorted by key. A cut is made
+/// at an anchor where the bytes of all anchors before it reach a threshold, its key is above that
+/// of the last cut, or above the smallest key, and fewer than `max_subcompactions - 1` cuts were
+/// made. The threshold begins with the target, and rises by the target at each cut. The target is
+/// the share of one range in all bytes, but at least `min_range_bytes`. A range may still have
+/// fewer bytes than the target: after an anchor of many bytes, the next threshold may be reached at
+/// once.
 pub fn select_boundaries(
     alloc: Global,
     anchors: Vec<Anchor>,

@@ -27,7 +27,8 @@ use std::alloc::Global;
 
 impl Poll {
     /// Commits a Compacted job: a run of the tables that its worker wrote takes the place of its
-    /// sources. `commit_gate` tells whether it may be committed.
+    /// sources. `commit_gate` tells whether it may be committed. No table of it has a first key
+    /// above its last key, and its sources stand in its tree.
     pub fn join(&mut self, alloc: Global, job: Ulid) -> Result<(), SlateDBError>
         requires there { IsSome (record_with job (own_jobs self.old.state)) }
         requires compacted { ForSome (record_with job (own_jobs self.old.state))

@@ -82,7 +82,7 @@ impl BytesRange {
         })
     }
 
-    /// A copy of a range of `Bytes`. The copy has keys of its own.
+    /// A copy of a range of `Bytes` that has room. Its keys share the memory of the range's keys.
     pub fn from<T: RangeBounds<Bytes>>(range: T) -> Result<BytesRange, SlateDBError>
         requires known { T.has_bounds range }
         requires non_empty { is_non_empty key_cmp (T.start_bound range, T.end_bound range) ≡ true }
@@ -94,7 +94,7 @@ impl BytesRange {
         Ok(BytesRange::new(start, end))
     }
 
-    /// A copy of a range of slices. The copy has keys of its own.
+    /// A copy of a range of slices that has room. The copy has keys of its own.
     pub fn from_slice<'a, T: RangeBounds<&'a [u8]>>(
         alloc: Global,
         range: T,
@@ -285,10 +285,10 @@ impl RangeBounds<Bytes> for BytesRange {
     }
 }
 
-// The bound with a copy of its key.
 /// Ranges of byte strings, such as the ranges of a job.
 pub type RangeList = ListOf<BytesRange>;
 
+// The bound with a copy of its key.
 fn cloned(bound: Bound<&Bytes>) -> Result<Bound<Bytes>, AllocError>
     ensures { IfOk result (λ b. b ≡ bound_map (λ key. key.now) bound.entry) }
 {

@@ -60,7 +60,8 @@ impl KeyRead {
     }
 
     /// Takes the rows that the source has left. They are rows of the key, older than all taken
-    /// before, newest first. No row is read after one that hides the others.
+    /// before, newest first. No row is read after one that hides the others. After `Memory` the
+    /// read is worth nothing.
     pub fn take<T: RowSource>(&mut self, alloc: Global, source: &mut T) -> Result<(), SlateDBError>
         requires sound { T.sound source.old }
         requires reading { IsReading (T.state source.old) }

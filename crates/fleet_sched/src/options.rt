@@ -82,7 +82,7 @@ impl Default for SizeTieredCompactionSchedulerOptions {
 /// The options of a coordinator.
 #[derive(Clone, Copy, Debug, PartialEq, Eq)]
 pub struct CompactorOptions {
-    /// How many jobs may run at once.
+    /// A poll takes at most so many proposals, less the Running jobs.
     pub max_concurrent_compactions: u64,
     /// After how many milliseconds without a heartbeat a worker loses its job.
     pub worker_heartbeat_timeout_ms: u64,

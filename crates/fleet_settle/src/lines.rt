@@ -18,12 +18,13 @@ use fleet_sched::CompactionScheduler;
 use fleet_text::{Line, Reply, answers};
 use std::thread::Threads;
 
-/// Runs a settle line with this number, counted from 1: rounds of a poll of the coordinator, a claim
-/// of the worker, and finishes of all jobs that it runs. The line ends when a poll leaves nothing to
-/// do, when a step is refused, or after so many rounds. Each step does what its line alone would do.
+/// Runs a settle line with this number, counted from 1: rounds of a poll of the coordinator, a
+/// claim of the worker, and finishes of all jobs that it runs. The line ends when a poll leaves
+/// nothing to do, when a step is refused, or after so many rounds. Each step does what its line
+/// alone would do.
 ///
-/// If a party is not live, the reply says so, and nothing is run. After `Memory` some steps may have
-/// been made, and the last one in part.
+/// If a party is not live, the reply says so, and nothing is run. After `Memory` some steps may
+/// have been made, and the last one in part.
 pub fn settle<R: Threads + Sync, O: MergeOperator>(
     fleet: &mut Fleet,
     rt: &R,
@@ -57,10 +58,10 @@ pub fn settle<R: Threads + Sync, O: MergeOperator>(
     )
 }
 
-/// Runs the line with this number, counted from 1, and gives its reply. A fault, a party that is not
-/// live and a refused step are replies. After `Memory` the line's calls may have been made in part,
-/// and the party that made them may be no longer live. Outputs of jobs are made on the threads of
-/// `rt`.
+/// Runs the line with this number, counted from 1, and gives its reply. A fault, a party that is
+/// not live and a refused step are replies. After `Memory` the line's calls may have been made in
+/// part, and the party that made them may be no longer live. A finish makes the tables of its
+/// ranges as `fleet_exec::finish_ranges` does. The line is no together line.
 pub fn serve_line<R: Threads + Sync, O: MergeOperator>(
     fleet: &mut Fleet,
     rt: &R,

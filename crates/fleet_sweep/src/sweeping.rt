@@ -27,7 +27,8 @@ fn find<S: SweepStore>(alloc: Global, store: &mut S, pins: &IdList) -> Result<Id
 
 /// Gets the manifest and the records, lists the held tables, and deletes those that no node of a
 /// tree names, that no job that is not over names in its context or in its outputs, and that are
-/// not pinned. They are deleted by rising id. The answer is their ids.
+/// not pinned. They are deleted by rising id. The answer is their ids. Nobody else calls the store
+/// meanwhile, and no flush is about to bring a table to a tree.
 ///
 /// If a fault strikes a call, the error is `StoreFault`. The tables that were deleted before stay
 /// deleted, and so it is if memory runs out.

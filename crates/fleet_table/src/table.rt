@@ -54,7 +54,8 @@ impl Model for TableData {
 }
 
 impl TableData {
-    /// A table that takes over these rows.
+    /// A table of these rows, which are copied into its bytes. There is at least one, and they are
+    /// strictly ordered and in bounds.
     pub fn from_rows(alloc: Global, rows: Vec<RowEntry>) -> Result<TableData, SlateDBError>
         requires some { rows.items ≢ [] }
         requires ordered { IsStrictlyOrdered (rows_of rows.items) }
@@ -168,8 +169,9 @@ impl TableData {
         key.cmp(self.first_key.as_slice()).is_lt() || key.cmp(self.last_key.as_slice()).is_gt()
     }
 
-    /// The newest row of a key with a sequence of at most `seq`. Only that row is decoded. A key
-    /// that is before the first or after the last key of the table costs two comparisons.
+    /// The newest row of a key with a sequence of at most `seq`. At most one row is decoded,
+    /// perhaps of another key. A key that is before the first or after the last key of the table
+    /// costs at most two comparisons.
     pub fn newest_at(&self, key: &[u8], seq: u64) -> Result<Option<RowEntry>, SlateDBError>
         ensures row { IfOk result (λ row. option_map row_of row
             ≡ slice_get (seen_at seq (rows_of_key key.now self.now)) 0) }

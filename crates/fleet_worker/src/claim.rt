@@ -15,7 +15,7 @@ use std::alloc::{AllocError, Global};
 
 /// What a claim did: the jobs of the attempts that it began, the jobs that it stopped since they
 /// wait again, and the jobs that it claimed but did not start since the manifest lacks their
-/// sources.
+/// sources or has other tables for them.
 #[derive(Debug, Drop)]
 pub struct ClaimReport {
     pub claimed: JobList,

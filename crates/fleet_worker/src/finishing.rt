@@ -109,11 +109,11 @@ impl Worker {
     }
 
     /// Writes all that is left of its job and ends it. It gets all source tables, each once, and
-    /// makes all that is left of each range, all ranges at once. It puts this as tables, range
-    /// after range, and at last the records with the job as Compacted. A table ends with the row
-    /// with which it exceeds the `max_sst_size` of the options. The gate gets a report of each
-    /// table when it is made. The answer describes the tables of each range, first those that were
-    /// noted for it.
+    /// makes all that is left of each range, as `fleet_exec::finish_ranges` does. It puts this as
+    /// tables, range after range, and at last the records with the job as Compacted. A table ends
+    /// with the row with which it exceeds the `max_sst_size` of the options. The gate gets a report
+    /// of each table when it is made. The answer describes the tables of each range, first those
+    /// that were noted for it.
     ///
     /// Where the operator refuses a fold, the error is its own, of the first range in which one is
     /// refused. The job is given back before that: it waits for a worker again if the attempt was
