@@ -22,9 +22,9 @@ use std::alloc::{AllocError, Global};
 
 /// Finishes a job, which made this run unless it was a drain. If out of memory, nothing changes.
 ///
-/// If one tree alone has the job's segment, the ids of its runs fall before and after, and the
-/// source runs stand one after the other, these are exchanged in its list, as `RunList::splice`
-/// does it. Else its list of runs is made anew.
+/// If one tree alone has the job's segment, the ids of its runs fall before and after, and the job
+/// names its flushes first and then its runs as they stand, one after the other, these are exchanged
+/// in its list, as `RunList::splice` does it. Else its list of runs is made anew.
 pub(crate) fn finish_core(
     alloc: Global,
     job: &Compaction,

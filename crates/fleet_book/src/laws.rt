@@ -31,7 +31,8 @@ pub fn finished_runs_stay()
 {}
 
 /// After `finish_compaction` and `finish_drain_compaction`, the flushes that stay are those that
-/// are newer than the watermark, if all were newer than the watermark before.
+/// are newer than the watermark, if all were newer than the watermark before, and each flush that is
+/// older than a source is a source too.
 pub fn finished_flushes_stay()
     ensures { FinishedFlushesStay }
 {}

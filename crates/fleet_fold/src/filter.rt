@@ -76,7 +76,7 @@ pub trait CompactionFilter: Send + Sync + Drop {
 pub trait CompactionFilterSupplier: Send + Sync {
     type Filter: CompactionFilter;
 
-    /// Makes a filter for a job. It is not closed; what it answers no clause says.
+    /// Makes a filter for a job. It is not closed. No clause says what it answers.
     fn create_compaction_filter(
         &self,
         alloc: Global,

@@ -24,7 +24,7 @@ pub fn moved_runs_are_the_models()
 
 /// Where moves are allowed, `trivial_move_output` gives a run exactly if the model can move the
 /// job. The job is no drain and names its flushes before its runs, and the tables have the first
-/// and the last key that their descriptions say.
+/// and the last key that their descriptions say, and the first is not above the last.
 pub fn movable_jobs_are_the_models()
     ensures { MovableJobsAreTheModels }
 {}

@@ -23,7 +23,7 @@ use std::ops::Bound;
 /// made. The threshold begins with the target, and rises by the target at each cut. The target is
 /// the share of one range in all bytes, but at least `min_range_bytes`. A range may still have
 /// fewer bytes than the target: after an anchor of many bytes, the next threshold may be reached at
-/// once.
+/// once. If the target is 0, or all bytes are at most the target, there is one range.
 pub fn select_boundaries(
     alloc: Global,
     anchors: Vec<Anchor>,

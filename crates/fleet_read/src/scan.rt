@@ -39,9 +39,9 @@ fn segment_sources(
 /// Scans a range of keys in the segment with this prefix, as it was at the sequence `seq` and the
 /// moment `now`, over the tables that the store's manifest names. It looks at the store, and calls
 /// nothing. The page has at most `limit` pairs, and ends at the first refusal. A scan below the
-/// horizon or before the tick is not answered. A table whose keys lie outside of the range costs
-/// two comparisons. Of each source at most one row is decoded that comes after the first key past
-/// the page.
+/// horizon or before the tick is not answered. A table whose keys lie outside of the range costs at
+/// most two comparisons. Of each source at most one row is decoded that comes after the next key
+/// with an answer past the page.
 pub fn scan_stored<O: MergeOperator>(
     alloc: Global,
     store: &MemStore,
