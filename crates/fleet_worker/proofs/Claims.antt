@@ -56,7 +56,7 @@ use Rattle.fleet_claim.specs.declared.options.CompactionWorkerOptions.{Compactio
 use Rattle.fleet_step.specs.Steps.{Leads, TryRan, puts_and}
 use Rattle.fleet_step.proofs.Steps.{begins, call_leads, then_leads, then_tried}
 use Rattle.fleet_step.proofs.Turns.{get_fails}
-use Rattle.fleet_worker.specs.Claims.{AreNew, BeginsNothing, IsChoice, IsClaimPut, IsClaimStart, MayNoteEach, MayTakeAll, after_put, attempts_at, claim_ends_with, next_parts, part_jobs, parts_of, put_part, with_parts}
+use Rattle.fleet_worker.specs.Claims.{AreNew, BeginsNothing, IsChoice, IsClaimPut, IsClaimStart, MayNoteEach, MayTakeAll, NamesBegun, after_put, attempts_at, claim_ends_with, next_parts, part_jobs, parts_of, put_part, with_parts}
 use Rattle.fleet_worker.specs.Workers.{AreNoted, AttemptParts, IsNoted, MayStep, WorkerParts, attempt_of, live_of}
 use Rattle.fleet_worker.specs.declared.claim.ClaimPut.{ClaimPut}
 use Rattle.fleet_worker.specs.declared.claim.ClaimReport.{ClaimReport}
@@ -132,6 +132,10 @@ ends_nothing : (w : WorkerParts) (stopped : List ℕ) (report : ClaimReport) (at
     → Reports (record { begun = []; stopped = stopped; released = []; attempts = without_attempts stopped (map attempt_of w.attempts) }) ≡ claim_ends_with (report, attempts)
 ends_nothing w stopped report attempts nothing =
     ap (λ xs. Reports (record { begun = []; stopped = stopped; released = []; attempts = xs })) (sym (without_same stopped w.attempts) ∙ ap (map attempt_of) (sym nothing.left)) ∙ ap (λ r. claim_ends_with (r, attempts)) (sym nothing.reports)
+
+-- It names no job.
+pub nothing_named : (w : WorkerParts) (stopped : List ℕ) (report : ClaimReport) (attempts : List AttemptParts) → BeginsNothing w stopped report attempts → NamesBegun attempts report
+nothing_named w stopped report attempts nothing = subst (NamesBegun attempts) (sym nothing.reports) refl
 
 -- There are no records.
 pub claims_none : (options : WorkerOptions) (moment : ℕ) (w : WorkerParts) (stopped : List ℕ) (report : ClaimReport) (attempts : List AttemptParts) → stopped ≡ [] → BeginsNothing w stopped report attempts → (again : ℕ → Course (StepEnd Claimed))
@@ -215,6 +219,22 @@ module _ (input : ClaimInput) (w : WorkerParts) (claimed : List JobParts) (stopp
   apart_back [] h = tt
   apart_back (x ∷ xs) h = (h.0, apart_back xs h.1)
 
+  same_jobs : (xs : List ClaimedAttempt) → part_jobs (map parts_of xs) ≡ map (λ a. a.job) xs
+  same_jobs [] = refl
+  same_jobs (a ∷ xs) = ap (λ js. a.job ∷ js) (same_jobs xs)
+
+  -- The attempts that began are there afterwards.
+  begun_there : attempts_at (map (λ a. a.job) starts.begun.items) (next_parts stopped starts.begun.items w.attempts) ≡ map parts_of starts.begun.items
+  begun_there =
+      ap (λ js. attempts_at js (next_parts stopped starts.begun.items w.attempts)) (sym (same_jobs starts.begun.items))
+      ∙ begun_at stopped (map parts_of starts.begun.items) w.attempts (pairs_back _ rise) (apart_back _ apart)
+
+  -- The report names their jobs.
+  pub names_begun : (report : ClaimReport) (attempts : List AttemptParts) → report ≡ record { claimed = map (λ a. a.job) starts.begun.items; stopped = stopped; released = starts.released.items } → attempts ≡ next_parts stopped starts.begun.items w.attempts → NamesBegun attempts report
+  names_begun report attempts is next =
+      subst (NamesBegun attempts) (sym is)
+      (subst (λ xs. part_jobs (attempts_at (map (λ a. a.job) starts.begun.items) xs) ≡ map (λ a. a.job) starts.begun.items) (sym next) (ap part_jobs begun_there ∙ same_jobs starts.begun.items))
+
   -- The claimed jobs start so, and the claim reports so.
   pub starts_so : (report : ClaimReport) (attempts : List AttemptParts) (jobs : List ℕ) → report ≡ record { claimed = jobs; stopped = stopped; released = starts.released.items } → jobs ≡ map (λ a. a.job) starts.begun.items
       → attempts ≡ next_parts stopped starts.begun.items w.attempts
@@ -231,19 +251,8 @@ module _ (input : ClaimInput) (w : WorkerParts) (claimed : List JobParts) (stopp
       end : List Attempt → List ℕ → Claimed
       end begun released = record { begun = begun; stopped = stopped; released = released; attempts = with_attempts begun (without_attempts stopped (map attempt_of w.attempts)) }
 
-      parts : List AttemptParts
-      parts = map parts_of starts.begun.items
-
-      same_jobs : (xs : List ClaimedAttempt) → part_jobs (map parts_of xs) ≡ map (λ a. a.job) xs
-      same_jobs [] = refl
-      same_jobs (a ∷ xs) = ap (λ js. a.job ∷ js) (same_jobs xs)
-
       found : map claimed_of starts.begun.items ≡ map attempt_of (attempts_at jobs attempts)
-      found =
-          sym (begun_same starts.begun.items)
-          ∙ ap (map attempt_of)
-          (sym (begun_at stopped (map parts_of starts.begun.items) w.attempts (pairs_back _ rise) (apart_back _ apart)) ∙ ap (λ js. attempts_at js (next_parts stopped starts.begun.items w.attempts)) (same_jobs starts.begun.items ∙ sym jobs_are)
-          ∙ ap (attempts_at jobs) (sym next))
+      found = sym (begun_same starts.begun.items) ∙ ap (map attempt_of) (sym begun_there ∙ ap (λ js. attempts_at js (next_parts stopped starts.begun.items w.attempts)) (sym jobs_are) ∙ ap (attempts_at jobs) (sym next))
 
 -- ---- tries
 
@@ -305,6 +314,12 @@ module _ (old mid : StoreView) (options : CompactionWorkerOptions) (moment : ℕ
         (is.are.model gets.met.store gets.ended.0 (tables_are old.who old.world gets.met merges kept gets.rivals) may) new start.report start.attempts _ is.reports refl is.next
         ∙ ap (λ notes. calls_each (noted_events notes) (Ends (claim_ends_with (start.report, start.attempts)))) (sym is.plans))
         got_here
+
+    -- The report names the jobs of the attempts that began.
+    pub begun_named : NamesBegun start.attempts start.report
+    begun_named =
+        names_begun (input_of w.release options moment gets.met.store) w claimed stopped is.starts
+        (is.are.model gets.met.store gets.ended.0 (tables_are old.who old.world gets.met merges kept gets.rivals) may) new start.report start.attempts is.reports is.next
 
     pub may_note : IsLawfulCourse old.who old.world (after_put (options_of options) moment (live_of w) (jobs_of claimed) stopped) → MayNoteEach start.notes.items mid
     may_note lawful = (

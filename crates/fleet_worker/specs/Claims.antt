@@ -68,6 +68,11 @@ attempts_at jobs attempts = flat_map (λ job. option_to_list (run_at attempts jo
 
 -- ---- the end of a claim
 
+-- The report of a claim after which the worker runs these attempts names as claimed exactly the jobs of the attempts
+-- that began: the worker runs one at each.
+abbrev pub NamesBegun : List AttemptParts → ClaimReport → Type 0
+NamesBegun attempts report = part_jobs (attempts_at report.claimed attempts) ≡ report.claimed
+
 -- The model's report of a claim after which the worker runs these attempts. It began those at the jobs that its report
 -- names as claimed.
 abbrev pub claimed_with : List AttemptParts → ClaimReport → Claimed

@@ -1,7 +1,7 @@
 -- How a worker handles messages.
-use Rattle.std.specs.Prelude.{◌≡◌, ℕ, map, IfSome, OnErr, Result, Ok, Err, ⊤}
+use Rattle.std.specs.Prelude.{◌≡◌, ℕ, map, IfOk, IfSome, OnErr, Result, Ok, Err, ⊤}
 use Rattle.step_model.specs.Steps.BeatSteps.{heartbeat}
-use Rattle.step_model.specs.Steps.ClaimSteps.{claim}
+use Rattle.step_model.specs.Steps.ClaimSteps.{Claimed, claim}
 use Rattle.step_model.specs.Courses.Course.{Course}
 use Rattle.step_model.specs.Steps.MessageSteps.{attempt_run, take_failed, take_finished, take_progress}
 use Rattle.step_model.specs.Courses.StepEnds.{StepEnd}
@@ -15,10 +15,11 @@ use Rattle.fleet_claim.specs.declared.options.CompactionWorkerOptions.{Compactio
 use Rattle.fleet_finish.specs.Puts.{Outputs}
 use Rattle.fleet_step.specs.Steps.{StepRan}
 use Rattle.fleet_worker.specs.Beats.{beat_ends}
-use Rattle.fleet_worker.specs.Claims.{claim_ends}
+use Rattle.fleet_worker.specs.Claims.{NamesBegun, claim_ends}
 use Rattle.fleet_worker.specs.Finishes.{IsResult, finish_ends, left_after}
 use Rattle.fleet_worker.specs.Messages.{IsShownBy, runs_then}
 use Rattle.fleet_worker.specs.Workers.{WorkerParts, live_of}
+use Rattle.fleet_worker.specs.declared.claim.ClaimReport.{ClaimReport}
 use Rattle.fleet_worker.specs.declared.handle.WorkerAnswer.{WorkerAnswer}
 use Rattle.fleet_worker.specs.declared.handle.WorkerAnswer.TheVariants as answer
 use Rattle.fleet_worker.specs.declared.handle.WorkerMessage.{WorkerMessage}
@@ -37,6 +38,14 @@ pub record StepAnswers {A B : Type 0} (answer : A → WorkerAnswer) (ends : A �
   pub done : Result A SlateDBError
   pub answers : result ≡ answer_of_step answer done
   pub ran : StepRan ends course old new done
+
+-- A claim ran its course, and this is the answer to it. The report names the jobs of the attempts that began.
+pub record ClaimAnswers (next : WorkerParts) (course : Course (StepEnd Claimed)) (old new : StoreView)
+    (result : Result WorkerAnswer SlateDBError) : Type 0 where
+  pub done : Result ClaimReport SlateDBError
+  pub answers : result ≡ answer_of_step answer.Claimed done
+  pub ran : StepRan (claim_ends next.attempts) course old new done
+  pub named : IfOk done (NamesBegun next.attempts)
 
 -- ---- an attempt that ended
 
@@ -86,8 +95,8 @@ RunsMessage options moment w next (CompactionJobFinished id number ended) old ne
 RunsMessage options moment w next (CompactionJobProgress id number bytes ctx) old new result =
     StepAnswers (λ done. answer.Noted) (runs_then next.attempts)
     (take_progress (live_of w) id number (context_of ctx)) old new result
-RunsMessage options moment w next PollCompactions old new result = StepAnswers answer.Claimed
-    (claim_ends next.attempts) (claim (options_of options) moment (live_of w)) old new result
+RunsMessage options moment w next PollCompactions old new result =
+    ClaimAnswers next (claim (options_of options) moment (live_of w)) old new result
 RunsMessage options moment w next HeartbeatOwnedJobs old new result =
     StepAnswers answer.Beat (beat_ends next.attempts) (heartbeat moment (live_of w)) old new result
 

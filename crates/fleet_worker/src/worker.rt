@@ -17,7 +17,7 @@ ghost use Rattle.fleet_jobs.specs.Contexts.{context_of};
 ghost use Rattle.fleet_jobs.specs.Jobs.{jobs_of};
 ghost use Rattle.fleet_store.specs.Records.{DescribeTables, jobs_or_none};
 ghost use Rattle.fleet_worker.specs.Beats.{IsBeatOf, IsBeatPut, IsReport, beat_ends, beat_ends_over, live_parts};
-ghost use Rattle.fleet_worker.specs.Claims.{AreNew, BeginsNothing, IsChoice, IsClaimPut, IsClaimStart, MayTakeAll, after_put, claim_ends, claim_ends_with, without_parts};
+ghost use Rattle.fleet_worker.specs.Claims.{AreNew, BeginsNothing, IsChoice, IsClaimPut, IsClaimStart, MayTakeAll, NamesBegun, after_put, claim_ends, claim_ends_with, without_parts};
 ghost use Rattle.fleet_worker.specs.Held.{all_held};
 ghost use Rattle.fleet_worker.specs.Messages.{IsReturnOf, StaysReady, attempt_with, gone_ends, one_return, runs_then, went_on};
 ghost use Rattle.fleet_worker.specs.Releases.{IsReleaseOf, is_over, one_release};
@@ -484,6 +484,7 @@ impl Worker {
         ensures noted { IfOk result (λ end. (later : model.Store)
             → IsLater (S.view store.new).world.store later → DescribeTables claimed.now later
             → AreNoted self.now.attempts later → AreNoted end.1 later) }
+        ensures named { IfOk result (λ end. NamesBegun end.1 end.0) }
     {
         let manifest = store.get_manifest()?;
         let start = self.start_under(options, moment, manifest, claimed, stopped)?;
@@ -505,6 +506,7 @@ impl Worker {
             (S.view store.old) (S.view store.new) result }
         ensures noted { IfOk result
             (λ end. AreNoted end.1 (S.view store.new).world.store) }
+        ensures named { IfOk result (λ end. NamesBegun end.1 end.0) }
     {
         let got = store.get_records()?;
         let Some(got) = got else {
@@ -535,6 +537,7 @@ impl Worker {
             (S.view store.old) (S.view store.new) result }
         ensures noted { IfOk result
             (λ end. AreNoted end.1 (S.view store.new).world.store) }
+        ensures named { IfOk result (λ end. NamesBegun end.1 end.0) }
     {
         let mut seen = 0;
         'tries: for tries in 0..MOST_REFUSED {
@@ -572,6 +575,7 @@ impl Worker {
           attempts = self.new.attempts;
           stopped = self.new.stopped;
         } }
+        ensures named { IfOk result (NamesBegun self.new.attempts) }
         ensures err { OnErr result (self.new.attempts ≡ self.old.attempts) }
         ensures ready { OnFalse self.new.stopped
             (IsReady (S.view store.new) self.new) }

@@ -27,3 +27,6 @@ returns-in-Err-clause-ready g c =
     subst (λ (w : WorkerParts). OnFalse stopped (IsReady (g.S.Store.view c.claims-claimed.new.store) (record w { stopped = stopped }))) (sym c.self.view_is)
     (ready_with (λ answer. claimed_with answer.1 answer.0) (λ (report : Claimed). report.attempts) _ _ w _ (g.met.S.Store.lawful _) c.requires.ready (claim_safe _ (options_of c.args.options.now) c.args.moment (live_of w) (g.met.S.Store.lawful _) c.requires.ready.may)
     (Err c.in-Err.error) ran stopped (c.stops-self-inside.ensures ∙ ap stops c.in-Err.is) w.attempts refl (noted_after claim_ends_with _ _ w _ (Err c.in-Err.error) ran c.requires.ready))
+
+pub returns-in-Ok-clause-named : goal.returns-in-Ok-clause-named
+returns-in-Ok-clause-named g c = rw c.in-Ok.is at c.claims-claimed.ensures.named

@@ -5,7 +5,7 @@ use Rattle.step_laws.proofs.Later.{later_then}
 use Rattle.fleet_step.proofs.Steps.{then_leads, then_tried}
 use Rattle.fleet_step.proofs.Turns.{ends_with, manifest_is, wants_memory}
 use Rattle.fleet_worker.specs.Claims.{claim_ends_with}
-use Rattle.fleet_worker.proofs.Claims.{got_here, may_note, noted_then, to_notes}
+use Rattle.fleet_worker.proofs.Claims.{begun_named, got_here, may_note, noted_then, to_notes}
 use Rattle.fleet_worker.proofs.worker.Worker.start_claimed.Goals as goal
 
 pub returns-in_err-start-clause-ran : goal.returns-in_err-start-clause-ran
@@ -41,3 +41,7 @@ returns-clause-noted g c = λ later after.
     let start = c.in_ok-start.start in
     let made = c.in_ok-note_each.ensures (Ends (claim_ends_with (start.report, start.attempts))) in
     noted_then c.args.options.now c.args.moment c.args.self.now c.in_ok-manifest.manifest c.args.claimed.now c.args.stopped start c.in_ok-start.ensures.start _ (manifest_is c.in_ok-manifest.ensures) later (later_then _ _ later made.later after)
+
+pub returns-clause-named : goal.returns-clause-named
+returns-clause-named g c =
+    begun_named _ _ c.args.options.now c.args.moment c.args.self.now c.args.claimed.now c.args.stopped c.in_ok-manifest.manifest c.in_ok-manifest.ensures c.in_ok-start.start c.in_ok-start.ensures.start (g.met.S.Store.lawful _) c.requires.keeps c.requires.may c.requires.new

@@ -10,7 +10,7 @@ use Rattle.fleet_step.proofs.Puts.{got_records}
 use Rattle.fleet_step.proofs.Turns.{wants_memory}
 use Rattle.fleet_worker.specs.Claims.{AreNew, IsClaimPut, MayTakeAll}
 use Rattle.fleet_worker.specs.Workers.{live_of}
-use Rattle.fleet_worker.proofs.Claims.{are_new, may_take_all}
+use Rattle.fleet_worker.proofs.Claims.{are_new, may_take_all, nothing_named}
 use Rattle.fleet_worker.proofs.TryClaims as law
 use Rattle.fleet_worker.proofs.worker.Worker.try_claim.Goals as goal
 
@@ -25,6 +25,9 @@ returns-in_default-clause-ran g c = λ again. law.no_records c.args.options.now 
 pub returns-in_default-clause-noted : goal.returns-in_default-clause-noted
 returns-in_default-clause-noted g c =
     law.nothing_noted _ _ c.args.self.now c.new.result c.in_ok-end.end.0 c.in_ok-end.end.1 c.in_ok-end.ensures.end (got_records c.in_ok-got.ensures (λ r. Ends zero)).later c.requires.ready.noted
+
+pub returns-in_default-clause-named : goal.returns-in_default-clause-named
+returns-in_default-clause-named g c = nothing_named c.args.self.now c.new.result c.in_ok-end.end.0 c.in_ok-end.end.1 c.in_ok-end.ensures.end
 
 pub returns-in_err-claimed-clause-ran : goal.returns-in_err-claimed-clause-ran
 returns-in_err-claimed-clause-ran g c = λ again.
@@ -47,6 +50,9 @@ returns-then-is_empty-clause-ran g c = λ again.
 pub returns-then-is_empty-clause-noted : goal.returns-then-is_empty-clause-noted
 returns-then-is_empty-clause-noted g c =
     law.nothing_noted _ _ c.args.self.now c.in_ok-claimed.stopped c.in_ok-end-2.end.0 c.in_ok-end-2.end.1 c.in_ok-end-2.ensures.end (got_records c.in_ok-got.ensures (λ r. Ends zero)).later c.requires.ready.noted
+
+pub returns-then-is_empty-clause-named : goal.returns-then-is_empty-clause-named
+returns-then-is_empty-clause-named g c = nothing_named c.args.self.now c.in_ok-claimed.stopped c.in_ok-end-2.end.0 c.in_ok-end-2.end.1 c.in_ok-end-2.ensures.end
 
 pub returns-in_err-put-clause-ran : goal.returns-in_err-put-clause-ran
 returns-in_err-put-clause-ran g c = λ again.
